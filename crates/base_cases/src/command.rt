@@ -1,5 +1,6 @@
 //! Words of a command line, and the command that they are.
 use case_text::Told;
+use pass_name::Road;
 use rtlc_words::{Command, Told as Tells, command_of};
 use rtx_tree::Name;
 use std::alloc::{AllocError, Global};
@@ -13,10 +14,18 @@ fn show_described(command: &str, name: &Option<Name>, told: &mut Told) {
     }
 }
 
+/// The command that tells the lines of a road.
+fn by_road(road: Road) -> &'static str {
+    match road {
+        Road::Usual => "asm",
+        Road::Reusing => "reuse",
+    }
+}
+
 /// Appends what is told of functions, by a description.
 fn show_over(name: &Option<Name>, what: &Tells, told: &mut Told) {
     match what {
-        Tells::Lines => show_described("asm", name, told),
+        Tells::Lines { road } => show_described(by_road(*road), name, told),
         Tells::Forms => show_described("recog", name, told),
         Tells::Words => show_described("image", name, told),
         Tells::Behind { pass } => {

@@ -1,12 +1,13 @@
 -- What a pass makes that changes the function alone, from what its call gave.
 use Rattle.std.proofs.Common.{◌≡◌, ℕ, List, Result, Ok, Err, sym, subst}
 use Rattle.rtx_tree.specs.declared.function.Function.{Function}
-use Rattle.pass_name.specs.declared.pass.Pass.TheVariants.{Lower, Combine, Split1, Split2, Peephole2}
+use Rattle.pass_name.specs.declared.pass.Pass.TheVariants.{Lower, Reuse, Combine, Split1, Split2, Peephole2}
 use Rattle.md_forms.specs.declared.form.Entry.{Entry}
 use Rattle.pass_refusal.specs.declared.refusal.PassRefusal.{PassRefusal}
 use Rattle.pass_refusal.specs.declared.refusal.PassRefusal.TheVariants as passes
 use Rattle.pass_refusal.specs.Outcome as outcome
 use Rattle.lower.specs.Lower.{LowerComes}
+use Rattle.reuse.specs.Reuse.{Reused}
 use Rattle.combine.specs.Combine.{Combined}
 use Rattle.split.specs.Split.{SplitComes}
 use Rattle.peep2.specs.Cover.{CoverComes}
@@ -20,6 +21,11 @@ plain_gives P Q follows (Err passes.Memory) gives = tt
 plain_gives P Q follows (Err (passes.Unmatched uid insn)) gives = follows (Err (passes.Unmatched uid insn)) gives
 plain_gives P Q follows (Err (passes.NotEquated uid rule item left right)) gives = follows (Err (passes.NotEquated uid rule item left right)) gives
 plain_gives P Q follows (Err (passes.Limit which count)) gives = follows (Err (passes.Limit which count)) gives
+
+-- what the reuse of values makes
+pub reused : (forms : List Entry) (n : ℕ) (f g : Function) → Reused forms n f g →
+    outcome.Gives (Ok (record { function = g; combined = 0 })) (ChangeComes forms f Reuse)
+reused forms n f g comes = ChangeComes.reuses n g comes
 
 -- what combination makes
 pub combined : (forms : List Entry) (n : ℕ) (f g : Function) → Combined forms n f g →

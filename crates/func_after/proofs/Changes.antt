@@ -5,10 +5,11 @@ use Rattle.rtx_tree.specs.declared.limit.Limit.TheVariants.{Instructions}
 use Rattle.run_refusal.specs.declared.refusal.Refusal.{Refusal}
 use Rattle.run_refusal.specs.declared.refusal.Refusal.TheVariants as refusal
 use Rattle.pass_name.specs.declared.pass.Pass.{Pass}
-use Rattle.pass_name.specs.declared.pass.Pass.TheVariants.{Read, Lower, Combine, Split1, Reload, Frame, Split2, Peephole2, Output}
+use Rattle.pass_name.specs.declared.pass.Pass.TheVariants.{Read, Lower, Reuse, Combine, Split1, Reload, Frame, Split2, Peephole2, Output}
 use Rattle.md_forms.specs.declared.form.Entry.{Entry}
 use Rattle.pass_refusal.specs.declared.refusal.PassRefusal.{PassRefusal}
 use Rattle.lower.specs.Lower.{LowerComes}
+use Rattle.reuse.specs.Reuse.{Reused}
 use Rattle.combine.specs.Combine.{Combined}
 use Rattle.split.specs.Split.{SplitComes}
 use Rattle.peep2.specs.Cover.{CoverComes}
@@ -52,6 +53,10 @@ module _ (forms : List Entry) (f : Function) (c : Change) where
 
   pub lower_by : (a : Changed) → a ≡ Ok c → ChangeComes forms f Lower a → LowerComes forms f (Ok c.function)
   lower_by _ is (ChangeComes.lowers r comes) = subst (LowerComes forms f) (plain_is r c is) comes
+
+  pub reuse_by : (a : Changed) → a ≡ Ok c → ChangeComes forms f Reuse a → (n : ℕ) × Reused forms n f c.function
+  reuse_by _ is (ChangeComes.reuses n g comes) = let same : record { function = g; combined = 0 } ≡ c = cc in
+      (n, subst (λ (d : Change). Reused forms n f d.function) same comes)
 
   pub combine_by : (a : Changed) → a ≡ Ok c → ChangeComes forms f Combine a → Combined forms c.combined f c.function
   combine_by _ is (ChangeComes.combines n g comes) = let same : record { function = g; combined = n } ≡ c = cc in

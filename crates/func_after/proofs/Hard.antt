@@ -2,6 +2,9 @@
 use Rattle.std.proofs.Common.{List, Ok, refl, subst}
 use Rattle.std.specs.List.{AllByRecursion}
 use Rattle.pass_name.specs.declared.pass.Pass.TheVariants.{Split2, Peephole2}
+use Rattle.pass_name.specs.declared.road.Road.{Road}
+use Rattle.pass_name.specs.declared.road.Road.TheVariants.{Usual, Reusing}
+use Rattle.pass_name.specs.Road.{behind_frame}
 use Rattle.md_forms.specs.declared.form.Entry.{Entry}
 use Rattle.split.specs.Split.{SplitComes}
 use Rattle.peep2.specs.Cover.{CoverComes}
@@ -10,7 +13,7 @@ use Rattle.law_peepholes.proofs.law_lines_ready.law_no_pseudos.Split.{split_agai
 use Rattle.law_peepholes.proofs.Hard.{peepholes_hard}
 use Rattle.func_after.specs.declared.made.Made.{Made}
 use Rattle.func_after.specs.declared.change.Change.{Change}
-use Rattle.func_after.specs.After.{behind_frame, PassesCome}
+use Rattle.func_after.specs.After.{PassesCome}
 use Rattle.func_after.specs.Leads.{IsDescribed}
 use Rattle.func_after.proofs.Changes.{again_by, cover_by, changes_of}
 use Rattle.func_after.proofs.Passing.{PassHolds, all_hold}
@@ -33,8 +36,9 @@ module _ (forms : List Entry) (described : IsDescribed forms) where
       peepholes_hard described.0 described.1 m.function n.function hard
       (subst (λ (es : List Entry). CoverComes es m.function (Ok n.function)) described.2 (cover_by forms m.function c (Ok c) refl changes.comes))
 
-  each_hard : AllByRecursion (PassHolds forms KeptHard) behind_frame
-  each_hard = (again_hard, (cover_hard, tt))
+  each_hard : (road : Road) → AllByRecursion (PassHolds forms KeptHard) (behind_frame road)
+  each_hard Usual = (again_hard, (cover_hard, tt))
+  each_hard Reusing = (again_hard, (cover_hard, tt))
 
-  pub behind_hard : (m n : Made) → PassesCome forms behind_frame m (Ok n) → IsHardFunction m.function → IsHardFunction n.function
-  behind_hard m n comes = all_hold forms KeptHard (λ m hard. hard) (λ l m n first second hard. second (first hard)) behind_frame m n (Ok n) refl each_hard comes
+  pub behind_hard : (road : Road) (m n : Made) → PassesCome forms (behind_frame road) m (Ok n) → IsHardFunction m.function → IsHardFunction n.function
+  behind_hard road m n comes = all_hold forms KeptHard (λ m hard. hard) (λ l m n first second hard. second (first hard)) (behind_frame road) m n (Ok n) refl (each_hard road) comes

@@ -4,7 +4,10 @@ use Rattle.std.specs.List.{AllByRecursion}
 use Rattle.rtx_tree.specs.Limit.{most_frame}
 use Rattle.rtx_tree.specs.declared.function.Function.{Function}
 use Rattle.pass_name.specs.declared.pass.Pass.{Pass}
-use Rattle.pass_name.specs.declared.pass.Pass.TheVariants.{Read, Lower, Combine, Split1, Reload, Frame, Split2, Peephole2}
+use Rattle.pass_name.specs.declared.pass.Pass.TheVariants.{Read, Lower, Reuse, Combine, Split1, Reload, Frame, Split2, Peephole2}
+use Rattle.pass_name.specs.declared.road.Road.{Road}
+use Rattle.pass_name.specs.declared.road.Road.TheVariants.{Usual, Reusing}
+use Rattle.pass_name.specs.Road.{before_homes, behind_frame}
 use Rattle.rv_text.specs.declared.line.CodeItem.{CodeItem}
 use Rattle.md_forms.specs.declared.form.Entry.{Entry}
 use Rattle.md_forms.specs.Forms.{forms_of}
@@ -17,6 +20,7 @@ use Rattle.pass_refusal.specs.declared.refusal.PassRefusal.{PassRefusal}
 use Rattle.law_passes.specs.law_insn_replaced.Sound.{IsSound, PassKeeps}
 use Rattle.law_passes.proofs.law_insn_replaced.Keeping.{kept_refl, kept_trans}
 use Rattle.lower.proofs.Kept.{lower_kept}
+use Rattle.reuse.proofs.Kept as reuse
 use Rattle.combine.proofs.Kept.{steps_kept}
 use Rattle.split.specs.Split.{SplitComes}
 use Rattle.split.proofs.Sound.{split_kept, split_does}
@@ -41,10 +45,10 @@ use Rattle.law_peepholes.proofs.law_lines_ready.Given.{placed_natural, placed_ma
 use Rattle.law_passes.proofs.Made.{size_holds, made_same}
 use Rattle.func_after.specs.declared.made.Made.{Made}
 use Rattle.func_after.specs.declared.change.Change.{Change}
-use Rattle.func_after.specs.After.{as_read, before_homes, behind_frame, ChangeComes, AfterComes}
+use Rattle.func_after.specs.After.{as_read, ChangeComes, AfterComes}
 use Rattle.func_after.specs.Leads.{IsDescribed, LeadsToLines}
 use Rattle.func_after.proofs.Hard.{behind_hard}
-use Rattle.func_after.proofs.Changes.{read_by, lower_by, combine_by, split_by, again_by, cover_by, changes_of}
+use Rattle.func_after.proofs.Changes.{read_by, lower_by, reuse_by, combine_by, split_by, again_by, cover_by, changes_of}
 use Rattle.func_after.proofs.Passing.{PassHolds, all_hold}
 use Rattle.func_after.proofs.Stages.{Stages, stages_of}
 
@@ -84,6 +88,9 @@ module _ (forms : List Entry) where
   lower_keeps : Before Lower
   lower_keeps = before_by Lower (λ is. cc) (λ is. cc) (λ f c sound comes. lower_kept forms f c.function sound (lower_by forms f c (Ok c) refl comes))
 
+  reuse_keeps : Before Reuse
+  reuse_keeps = before_by Reuse (λ is. cc) (λ is. cc) (λ f c sound comes. let made = reuse_by forms f c (Ok c) refl comes in reuse.steps_kept forms made.0 f c.function sound made.1.steps)
+
   combine_keeps : Before Combine
   combine_keeps = before_by Combine (λ is. cc) (λ is. cc) (λ f c sound comes. steps_kept forms c.combined f c.function sound (combine_by forms f c (Ok c) refl comes).0)
 
@@ -91,8 +98,9 @@ module _ (forms : List Entry) where
   split_keeps = before_by Split1 (λ is. cc) (λ is. cc) (λ f c sound comes. split_kept forms f c.function sound (split_by forms f c (Ok c) refl comes))
 
   -- each of them keeps a sound function
-  before_keeps : AllByRecursion Before before_homes
-  before_keeps = (read_keeps, (lower_keeps, (combine_keeps, (split_keeps, tt))))
+  before_keeps : (road : Road) → AllByRecursion Before (before_homes road)
+  before_keeps Usual = (read_keeps, (lower_keeps, (combine_keeps, (split_keeps, tt))))
+  before_keeps Reusing = (read_keeps, (lower_keeps, (reuse_keeps, (combine_keeps, (split_keeps, tt)))))
 
 -- ---- those behind the frame
 
@@ -137,12 +145,13 @@ module _ (forms : List Entry) where
   cover_keeps = behind_by Peephole2 (λ is. cc) (λ is. cc) (λ f c placed comes. peepholes_keep forms f c.function placed (cover_by forms f c (Ok c) refl comes))
 
   -- each of them does what the function did, and leaves it placed
-  behind_keeps : AllByRecursion Behind behind_frame
-  behind_keeps = (again_keeps, (cover_keeps, tt))
+  behind_keeps : (road : Road) → AllByRecursion Behind (behind_frame road)
+  behind_keeps Usual = (again_keeps, (cover_keeps, tt))
+  behind_keeps Reusing = (again_keeps, (cover_keeps, tt))
 
 -- ---- all
 
-module _ (forms : List Entry) (f : Function) (m : Made) (sound : IsSound f) (s : Stages forms f m) where
+module _ (forms : List Entry) (road : Road) (f : Function) (m : Made) (sound : IsSound f) (s : Stages forms road f m) where
   abbrev plain : Function
   plain = s.plain.function
 
@@ -150,8 +159,8 @@ module _ (forms : List Entry) (f : Function) (m : Made) (sound : IsSound f) (s :
   layout = layout_of plain s.homes
 
   passes : PassKeeps f plain
-  passes = all_hold forms KeptSound sound_same sound_joined before_homes (as_read f) s.plain (Ok s.plain) refl
-      (before_keeps forms) s.before sound
+  passes = all_hold forms KeptSound sound_same sound_joined (before_homes road) (as_read f) s.plain (Ok s.plain) refl
+      (before_keeps forms road) s.before sound
 
   windows : HasWindows forms s.homes layout plain s.moved
   windows = reload_windows forms s.homes layout plain s.moved s.reloads
@@ -179,11 +188,11 @@ module _ (forms : List Entry) (f : Function) (m : Made) (sound : IsSound f) (s :
   keeps = frame_keeps forms s.moved s.framed layout laid (placed_registers s.moved moved_placed) s.frames
 
   last : KeepsPlaced (record { function = s.framed; combined = s.combined; layout = layout }) m
-  last = all_hold forms KeptPlaced placed_same placed_joined behind_frame (record { function = s.framed; combined = s.combined; layout = layout }) m
-      (Ok m) refl (behind_keeps forms) s.behind framed_placed
+  last = all_hold forms KeptPlaced placed_same placed_joined (behind_frame road) (record { function = s.framed; combined = s.combined; layout = layout }) m
+      (Ok m) refl (behind_keeps forms road) s.behind framed_placed
 
   last_hard : IsDescribed forms → IsHardFunction m.function
-  last_hard described = behind_hard forms described (record { function = s.framed; combined = s.combined; layout = layout }) m s.behind framed_hard
+  last_hard described = behind_hard forms described road (record { function = s.framed; combined = s.combined; layout = layout }) m s.behind framed_hard
 
   same_by : IsDescribed forms → (items : List CodeItem) → SameWhereLeft m.function items → Same layout.size f items
   same_by described items lines_do =
@@ -207,5 +216,5 @@ module _ (forms : List Entry) (f : Function) (m : Made) (sound : IsSound f) (s :
   }
 
 -- what comes to output leads to lines with the behaviour of the function
-pub after_leads : (forms : List Entry) (f : Function) (m : Made) → IsDescribed forms → IsSound f → AfterComes forms f (Ok m) → LeadsToLines f m
-after_leads forms f m described sound comes = leads_by forms f m sound (stages_of forms f m comes) described
+pub after_leads : (forms : List Entry) (road : Road) (f : Function) (m : Made) → IsDescribed forms → IsSound f → AfterComes forms road f (Ok m) → LeadsToLines f m
+after_leads forms road f m described sound comes = leads_by forms road f m sound (stages_of forms road f m comes) described

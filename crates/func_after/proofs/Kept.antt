@@ -2,10 +2,13 @@
 use Rattle.std.proofs.Common.{◌≡◌, List, Ok, refl, sym, ap, subst, ◌∙◌}
 use Rattle.rtx_tree.specs.declared.function.Function.{Function}
 use Rattle.pass_name.specs.declared.pass.Pass.{Pass}
+use Rattle.pass_name.specs.declared.road.Road.{Road}
+use Rattle.pass_name.specs.Road.{passes_of}
 use Rattle.pass_name.specs.declared.pass.Pass.TheVariants.{Split1, Split2}
 use Rattle.md_forms.specs.declared.form.Entry.{Entry}
 use Rattle.lower.specs.Lower.{LowerComes}
 use Rattle.lower.proofs.Kept.{lower_same}
+use Rattle.reuse.proofs.Kept as reuse
 use Rattle.combine.proofs.Kept.{steps_same}
 use Rattle.split.specs.Split.{SplitComes}
 use Rattle.split.proofs.Kept.{same_marks}
@@ -17,7 +20,7 @@ use Rattle.reload.proofs.Marks.{reload_marks}
 use Rattle.frame.proofs.Kept.{frame_marks}
 use Rattle.func_after.specs.declared.change.Change.{Change}
 use Rattle.func_after.specs.declared.made.Made.{Made}
-use Rattle.func_after.specs.After.{Answer, Changed, as_read, all_passes, ChangeComes, PassMakes, AfterComes}
+use Rattle.func_after.specs.After.{Answer, Changed, as_read, ChangeComes, PassMakes, AfterComes}
 use Rattle.func_after.proofs.Changes.{plain_is, makes_of, changed_by, reload_told, frame_told}
 use Rattle.func_after.proofs.Passing.{PassHolds, all_hold, every}
 
@@ -27,6 +30,9 @@ module _ (forms : List Entry) where
   change_name f _ c _ is ChangeComes.reads = let same : record { function = f; combined = 0 } ≡ c = cc in sym (ap (λ (d : Change). d.function.name) same)
   change_name f _ c _ is (ChangeComes.lowers r comes) =
       (lower_same forms f c.function (subst (LowerComes forms f) (plain_is r c is) comes)).name_is
+  change_name f _ c _ is (ChangeComes.reuses n g comes) =
+      let same : record { function = g; combined = 0 } ≡ c = cc in
+      sym (ap (λ (d : Change). d.function.name) same) ∙ (reuse.steps_same forms n f g comes.steps).name_is
   change_name f _ c _ is (ChangeComes.combines n g comes) =
       let same : record { function = g; combined = n } ≡ c = cc in
       sym (ap (λ (d : Change). d.function.name) same) ∙ (steps_same forms n f g comes.0).name_is
@@ -54,7 +60,7 @@ abbrev Named : Made → Made → Type 0
 Named m n = n.function.name ≡ m.function.name
 
 -- a function keeps its name
-pub after_name : (forms : List Entry) (f : Function) (m : Made) → AfterComes forms f (Ok m) → m.function.name ≡ f.name
-after_name forms f m comes =
-    all_hold forms Named (λ m. refl) (λ l m n first second. second ∙ first) all_passes (as_read f) m (Ok m) refl
-    (every (PassHolds forms Named) (λ pass m n comes. pass_name forms m n pass (Ok n) refl (makes_of forms m n pass (Ok n) refl comes)) all_passes) comes
+pub after_name : (forms : List Entry) (road : Road) (f : Function) (m : Made) → AfterComes forms road f (Ok m) → m.function.name ≡ f.name
+after_name forms road f m comes =
+    all_hold forms Named (λ m. refl) (λ l m n first second. second ∙ first) (passes_of road) (as_read f) m (Ok m) refl
+    (every (PassHolds forms Named) (λ pass m n comes. pass_name forms m n pass (Ok n) refl (makes_of forms m n pass (Ok n) refl comes)) (passes_of road)) comes

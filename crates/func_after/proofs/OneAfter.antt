@@ -5,8 +5,11 @@ use Rattle.rtx_tree.specs.declared.limit.Limit.TheVariants.{Instructions}
 use Rattle.run_refusal.specs.declared.refusal.Refusal.TheVariants as refusal
 use Rattle.md_forms.specs.declared.form.Entry.{Entry}
 use Rattle.pass_name.specs.declared.pass.Pass.{Pass}
+use Rattle.pass_name.specs.declared.road.Road.{Road}
+use Rattle.pass_name.specs.Road.{passes_of}
 use Rattle.pass_name.specs.declared.pass.Pass.TheVariants.{Split1, Frame, Split2}
 use Rattle.lower.proofs.OneLower.{lower_one}
+use Rattle.reuse.proofs.One.{reused_one}
 use Rattle.combine.proofs.One.{combined_one}
 use Rattle.split.proofs.One.{one_split}
 use Rattle.peep2.proofs.One.{cover_one}
@@ -17,7 +20,7 @@ use Rattle.reload.specs.Reload.{FunctionReloads}
 use Rattle.reload.proofs.One.{reload_one}
 use Rattle.frame.proofs.One.{frame_one}
 use Rattle.func_after.specs.declared.made.Made.{Made}
-use Rattle.func_after.specs.After.{Answer, Changed, plainly, told_for, told_reloaded, as_read, up_to, all_passes, count_of, ChangeComes, PassMakes, PassComes, PassesCome, IsBehind, AfterComes}
+use Rattle.func_after.specs.After.{Answer, Changed, plainly, told_for, told_reloaded, as_read, up_to, count_of, ChangeComes, PassMakes, PassComes, PassesCome, IsBehind, AfterComes}
 use Rattle.func_after.proofs.Changes.{ok_is, apart, no_reload, no_frame}
 
 abbrev combining : ℕ → Function → Changed
@@ -31,6 +34,7 @@ module _ (forms : List Entry) where
   change_one : (f : Function) (pass : Pass) (a b : Changed) → ChangeComes forms f pass a → ChangeComes forms f pass b → a ≡ b
   change_one f _ _ _ ChangeComes.reads ChangeComes.reads = refl
   change_one f _ _ _ (ChangeComes.lowers r does) (ChangeComes.lowers s does') = ap plainly (lower_one forms f r s does does')
+  change_one f _ _ _ (ChangeComes.reuses n g does) (ChangeComes.reuses k h does') = ap (λ (g : Function). plainly (Ok g)) (reused_one forms n k f g h does does').1
   change_one f _ _ _ (ChangeComes.combines n g does) (ChangeComes.combines k h does') =
       let same = combined_one forms n k f g h does does' in same_combining n k g h same.0 same.1
   change_one f _ _ _ (ChangeComes.splits_first r does) (ChangeComes.splits_first s does') = ap plainly (one_split forms Split1 f r s does does')
@@ -85,9 +89,9 @@ module _ (forms : List Entry) where
       passes_one others next' a b (subst (λ (n : Made). PassesCome forms others n a) same rest) rest'
 
 -- what a function is behind a pass
-pub one_behind : (forms : List Entry) (f : Function) (pass : Pass) (a b : Answer) → IsBehind forms f pass a → IsBehind forms f pass b → a ≡ b
-one_behind forms f pass a b m n = passes_one forms (up_to pass all_passes) (as_read f) a b m n
+pub one_behind : (forms : List Entry) (road : Road) (f : Function) (pass : Pass) (a b : Answer) → IsBehind forms road f pass a → IsBehind forms road f pass b → a ≡ b
+one_behind forms road f pass a b m n = passes_one forms (up_to pass (passes_of road)) (as_read f) a b m n
 
 -- and when it comes to output
-pub one_after : (forms : List Entry) (f : Function) (a b : Answer) → AfterComes forms f a → AfterComes forms f b → a ≡ b
-one_after forms f a b m n = passes_one forms all_passes (as_read f) a b m n
+pub one_after : (forms : List Entry) (road : Road) (f : Function) (a b : Answer) → AfterComes forms road f a → AfterComes forms road f b → a ≡ b
+one_after forms road f a b m n = passes_one forms (passes_of road) (as_read f) a b m n

@@ -3,6 +3,9 @@ use Rattle.std.proofs.Common.{◌≡◌, ℕ, zero, suc, ◌+◌, ◌<◌, arith
 use Rattle.std.specs.Prelude.{if◌then◌else◌}
 use Rattle.rtx_tree.specs.declared.function.Function.{Function}
 use Rattle.run_refusal.specs.declared.refusal.Refusal.{Refusal}
+use Rattle.pass_name.specs.declared.road.Road.{Road}
+use Rattle.pass_name.specs.declared.road.Road.TheVariants.{Usual, Reusing}
+use Rattle.pass_name.specs.Road.{passes_of}
 use Rattle.md_forms.specs.declared.form.Entry.{Entry}
 use Rattle.pass_name.specs.declared.pass.Pass.{Pass}
 use Rattle.pass_name.specs.declared.pass.Pass.TheVariants.{Output}
@@ -10,7 +13,7 @@ use Rattle.func_input.specs.Input.{RefusesWith}
 use Rattle.func_input.proofs.Firsts.{drop_at}
 use Rattle.func_input.proofs.Refusing.{refuses_map}
 use Rattle.func_after.specs.declared.made.Made.{Made}
-use Rattle.func_after.specs.After.{Answer, PassComes, PassesCome, as_read, all_passes, is_pass, up_to, IsBehind, AfterComes, Gives}
+use Rattle.func_after.specs.After.{Answer, PassComes, PassesCome, as_read, is_pass, up_to, IsBehind, AfterComes, Gives}
 
 -- what the other passes make of what is made now is what all make of what there was first
 pub record Makes (forms : List Entry) (passes : List Pass) (first now : Made) (others : List Pass) : Type 0 where
@@ -76,10 +79,11 @@ makes_all forms all last first now others none so_far =
 
 -- ---- all of them
 
-up_to_all : up_to Output all_passes ≡ all_passes
+up_to_all : (road : Road) → up_to Output (passes_of road) ≡ passes_of road
 unfolding up_to
-up_to_all = refl
+up_to_all Usual = refl
+up_to_all Reusing = refl
 
 -- what is behind the last is what comes to output
-pub behind_all : (forms : List Entry) (f : Function) (a : Answer) → Gives a (IsBehind forms f Output) → Gives a (AfterComes forms f)
-behind_all forms f a gives = subst (λ passes. Gives a (PassesCome forms passes (as_read f))) up_to_all gives
+pub behind_all : (forms : List Entry) (road : Road) (f : Function) (a : Answer) → Gives a (IsBehind forms road f Output) → Gives a (AfterComes forms road f)
+behind_all forms road f a gives = subst (λ passes. Gives a (PassesCome forms passes (as_read f))) (up_to_all road) gives

@@ -2,10 +2,13 @@
 use Rattle.std.proofs.Common.{List, ◌∷◌, drop, Ok, refl}
 use Rattle.rtx_tree.specs.declared.function.Function.{Function}
 use Rattle.pass_name.specs.declared.pass.Pass.{Pass}
+use Rattle.pass_name.specs.declared.road.Road.{Road}
+use Rattle.pass_name.specs.declared.road.Road.TheVariants.{Usual, Reusing}
+use Rattle.pass_name.specs.Road.{passes_of}
 use Rattle.pass_name.specs.declared.pass.Pass.TheVariants.{Read}
 use Rattle.md_forms.specs.declared.form.Entry.{Entry}
 use Rattle.func_after.specs.declared.made.Made.{Made}
-use Rattle.func_after.specs.After.{as_read, all_passes, IsShort, PassesCome, AfterComes}
+use Rattle.func_after.specs.After.{as_read, IsShort, PassesCome, AfterComes}
 use Rattle.func_after.proofs.Changes.{short_of}
 use Rattle.func_after.proofs.Passing.{PassHolds, all_hold, every, next_of}
 
@@ -20,5 +23,6 @@ some_short forms pass others m last comes =
     (every (PassHolds forms KeptShort) (λ pass m n comes short. short_of forms m n pass (Ok n) refl comes) others) first.rest
     (short_of forms m first.next pass (Ok first.next) refl first.comes)
 
-pub after_short : (forms : List Entry) (f : Function) (m : Made) → AfterComes forms f (Ok m) → IsShort m
-after_short forms f m comes = some_short forms Read (drop 1 all_passes) (as_read f) m comes
+pub after_short : (forms : List Entry) (road : Road) (f : Function) (m : Made) → AfterComes forms road f (Ok m) → IsShort m
+after_short forms Usual f m comes = some_short forms Read (drop 1 (passes_of Usual)) (as_read f) m comes
+after_short forms Reusing f m comes = some_short forms Read (drop 1 (passes_of Reusing)) (as_read f) m comes

@@ -10,13 +10,16 @@ use Rattle.rtx_tree.specs.Limit.{most_made}
 use Rattle.rtl_chain.specs.Counts.{instruction_count}
 use Rattle.pass_name.specs.Pass.{pass_name}
 use Rattle.pass_name.specs.declared.pass.Pass.{Pass}
-use Rattle.pass_name.specs.declared.pass.Pass.TheVariants.{Read, Lower, Combine, Split1, Reload, Frame, Split2, Peephole2, Output}
+use Rattle.pass_name.specs.declared.pass.Pass.TheVariants.{Read, Lower, Reuse, Combine, Split1, Reload, Frame, Split2, Peephole2, Output}
+use Rattle.pass_name.specs.declared.road.Road.{Road}
+use Rattle.pass_name.specs.Road.{passes_of}
 use Rattle.run_refusal.specs.declared.refusal.Refusal.{Refusal}
 use Rattle.run_refusal.specs.declared.refusal.Refusal.TheVariants as refusal
 use Rattle.md_forms.specs.declared.form.Entry.{Entry}
 use Rattle.pass_refusal.specs.declared.refusal.PassRefusal.{PassRefusal}
 use Rattle.pass_refusal.specs.declared.refusal.PassRefusal.TheVariants as passes
 use Rattle.lower.specs.Lower.{LowerComes}
+use Rattle.reuse.specs.Reuse.{Reused}
 use Rattle.combine.specs.Combine.{Combined}
 use Rattle.split.specs.Split.{SplitComes}
 use Rattle.peep2.specs.Cover.{CoverComes}
@@ -82,6 +85,8 @@ pub data ChangeComes (forms : List Entry) (f : Function) : Pass → Changed → 
   reads : ChangeComes forms f Read (plainly (Ok f))
   lowers : (r : Result Function PassRefusal) → LowerComes forms f r →
       ChangeComes forms f Lower (plainly r)
+  reuses : (n : ℕ) (g : Function) → Reused forms n f g →
+      ChangeComes forms f Reuse (plainly (Ok g))
   combines : (n : ℕ) (g : Function) → Combined forms n f g →
       ChangeComes forms f Combine (Ok (record { function = g; combined = n }))
   splits_first : (r : Result Function PassRefusal) → SplitComes forms Split1 f r →
@@ -156,18 +161,6 @@ pub data PassesCome (forms : List Entry) : List Pass → Made → Answer → Typ
       PassComes forms m pass (Ok next) →
       PassesCome forms others next answer → PassesCome forms (pass ∷ others) m answer
 
--- the passes before registers have homes
-abbrev pub before_homes : List Pass
-before_homes = Read ∷ Lower ∷ Combine ∷ Split1 ∷ []
-
--- those behind the frame
-abbrev pub behind_frame : List Pass
-behind_frame = Split2 ∷ Peephole2 ∷ []
-
--- all before the text is written
-abbrev pub all_passes : List Pass
-all_passes = before_homes ++ (Reload ∷ Frame ∷ behind_frame)
-
 -- two passes are one if they have one name
 abbrev pub is_pass : Pass → Pass → Bool
 is_pass a b = bytes_eq (pass_name a) (pass_name b)
@@ -177,13 +170,13 @@ unfoldable pub up_to : Pass → List Pass → List Pass
 up_to last [] = []
 up_to last (pass ∷ passes) = pass ∷ (if is_pass pass last then [] else up_to last passes)
 
--- what a function is behind a pass, or what a pass on the way there refuses
-abbrev pub IsBehind : List Entry → Function → Pass → Answer → Type 0
-IsBehind forms f pass = PassesCome forms (up_to pass all_passes) (as_read f)
+-- what a function is on a road behind a pass, or what a pass on the way there refuses
+abbrev pub IsBehind : List Entry → Road → Function → Pass → Answer → Type 0
+IsBehind forms road f pass = PassesCome forms (up_to pass (passes_of road)) (as_read f)
 
--- what comes to output: the function behind all passes
-abbrev pub AfterComes : List Entry → Function → Answer → Type 0
-AfterComes forms f = PassesCome forms all_passes (as_read f)
+-- what comes to output: the function behind all passes of a road
+abbrev pub AfterComes : List Entry → Road → Function → Answer → Type 0
+AfterComes forms road f = PassesCome forms (passes_of road) (as_read f)
 
 -- ---- what a call has done
 

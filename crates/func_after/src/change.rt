@@ -11,6 +11,7 @@ use md_desc::Description;
 use pass_name::Pass;
 use pass_refusal::PassRefusal;
 use peep2::peep2;
+use reuse::reuse;
 use rtx_tree::Function;
 use split::split;
 use std::alloc::Global;
@@ -43,6 +44,18 @@ pub(crate) fn lowered(alloc: Global, desc: &Description, f: Function) -> Result<
     ensures { Gives result (ChangeComes desc.now f passes.Lower) }
 {
     plainly(lower(alloc, desc, f))
+}
+
+/// What the reuse of values makes.
+#[tactic(auto, using(crate::proofs::ChangeLaws::reused))]
+pub(crate) fn reused(alloc: Global, desc: &Description, f: Function) -> Result<Change, PassRefusal>
+    ensures { Gives result (ChangeComes desc.now f passes.Reuse) }
+{
+    let (function, _steps) = reuse(alloc, desc, f)?;
+    Ok(Change {
+        function,
+        combined: 0,
+    })
 }
 
 /// What combination makes.

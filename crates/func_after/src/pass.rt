@@ -4,7 +4,9 @@ ghost use Rattle.pass_name.specs.declared.pass.Pass.TheVariants as passes;
 ghost use Rattle.func_after.specs.After as spec;
 ghost use Rattle.func_after.specs.After.{Gives, PassComes, PassMakes};
 
-use crate::change::{Change, combined, covered, lowered, plainly, split_again, split_first};
+use crate::change::{
+    Change, combined, covered, lowered, plainly, reused, split_again, split_first,
+};
 use crate::made::Made;
 use crate::refusal::{refused_for, unreloaded_for};
 use assign::{Layout, assign, layout};
@@ -27,6 +29,7 @@ fn combined_behind(pass: Pass, before: usize, now: usize) -> usize
         Pass::Combine => now,
         Pass::Read
         | Pass::Lower
+        | Pass::Reuse
         | Pass::Split1
         | Pass::Reload
         | Pass::Frame
@@ -106,6 +109,13 @@ fn made_by(alloc: Global, desc: &Description, m: Made, pass: Pass) -> Result<Mad
             m.layout,
             pass,
             lowered(alloc, desc, m.function),
+        ),
+        Pass::Reuse => told(
+            name,
+            m.combined,
+            m.layout,
+            pass,
+            reused(alloc, desc, m.function),
         ),
         Pass::Combine => told(
             name,

@@ -10,6 +10,7 @@ use Rattle.rv_image.specs.declared.image.Image.{Image}
 use Rattle.image_text.specs.Text.{image_text}
 use Rattle.run_refusal.specs.declared.refusal.Refusal.{Refusal}
 use Rattle.run_refusal.specs.declared.refusal.Refusal.TheVariants as refusal
+use Rattle.pass_name.specs.declared.road.Road.TheVariants.{Usual}
 use Rattle.md_forms.specs.declared.form.Entry.{Entry}
 use Rattle.func_input.specs.Input.{FunctionsComeTo, RefusesWith}
 use Rattle.func_input.specs.Outcome.{Outcome, Gives}
@@ -50,16 +51,16 @@ size_comes units size long = UnitsCome.too_long size long
 
 -- ---- functions
 
-err_of : (forms : List Entry) (functions : List Function) (o : assembly.Outcome) (e : Refusal) → o ≡ Err e → FunctionsCome forms functions o → FunctionsComeTo (WordsCome forms) functions (Err e)
+err_of : (forms : List Entry) (functions : List Function) (o : assembly.Outcome) (e : Refusal) → o ≡ Err e → FunctionsCome forms Usual functions o → FunctionsComeTo (WordsCome forms) functions (Err e)
 err_of forms functions _ e is (FunctionsComeTo.refused d first) = subst (λ (x : Refusal). FunctionsComeTo (WordsCome forms) functions (Err x)) (let same : d ≡ e = cc in same) (FunctionsComeTo.refused d first)
-err_of forms functions _ e is (FunctionsComeTo.admitted o none own) = FunctionsComeTo.admitted (Err e) none (WordsCome.refused e (subst (AssemblyComes forms functions) is own))
+err_of forms functions _ e is (FunctionsComeTo.admitted o none own) = FunctionsComeTo.admitted (Err e) none (WordsCome.refused e (subst (AssemblyComes forms Usual functions) is own))
 
 -- what refused the assembly refuses the image
-pub image_refused : (forms : List Entry) (functions : List Function) (e : Refusal) → RefusesWith e (FunctionsCome forms functions) → RefusesWith e (FunctionsComeTo (WordsCome forms) functions)
-image_refused forms functions e h = refuses_map e (FunctionsCome forms functions) (FunctionsComeTo (WordsCome forms) functions) (λ e comes. err_of forms functions (Err e) e refl comes) h
+pub image_refused : (forms : List Entry) (functions : List Function) (e : Refusal) → RefusesWith e (FunctionsCome forms Usual functions) → RefusesWith e (FunctionsComeTo (WordsCome forms) functions)
+image_refused forms functions e h = refuses_map e (FunctionsCome forms Usual functions) (FunctionsComeTo (WordsCome forms) functions) (λ e comes. err_of forms functions (Err e) e refl comes) h
 
 -- what the lines of the assembly came to, the functions come to
-pub image_comes : (forms : List Entry) (functions : List Function) (a : Assembly) (units : List CodeUnit) (r : Result (Vec ℕ Global) Refusal) → FunctionsCome forms functions (Ok a) → units ≡ units_of functions a.parts → Gives r (UnitsCome units) → Gives r (FunctionsComeTo (WordsCome forms) functions)
+pub image_comes : (forms : List Entry) (functions : List Function) (a : Assembly) (units : List CodeUnit) (r : Result (Vec ℕ Global) Refusal) → FunctionsCome forms Usual functions (Ok a) → units ≡ units_of functions a.parts → Gives r (UnitsCome units) → Gives r (FunctionsComeTo (WordsCome forms) functions)
 image_comes forms functions a units r comes is h =
     let has = has_assembly forms functions (Ok a) a refl comes in
     gives_map r (UnitsCome units) (FunctionsComeTo (WordsCome forms) functions)

@@ -8,6 +8,7 @@ use Rattle.rv_image.specs.Image.{AreLeast, size_of, entries_from, first_entry, I
 use Rattle.rv_image.specs.declared.image.CodeUnit.{CodeUnit}
 use Rattle.rv_image.specs.declared.image.Image.{Image}
 use Rattle.law_image.proofs.Functions.{functions_do}
+use Rattle.pass_name.specs.declared.road.Road.TheVariants.{Usual}
 use Rattle.md_forms.specs.declared.form.Entry.{Entry}
 use Rattle.law_assembly.specs.func_text.Same.{AreSame, HasBehaviour, none, function}
 use Rattle.law_assembly.specs.func_text.func_after.Leads.{IsDescribed}
@@ -75,5 +76,5 @@ does_in_words forms bytes text described told = record {
   is_image = told.is_image;
   text_is = told.text_is;
   does = has_words told.functions told.assembly.parts told.image told.is_image
-      (are_same forms 0 told.functions told.assembly described (input_are_sound bytes told.functions told.input) told.is_assembly);
+      (are_same forms Usual 0 told.functions told.assembly described (input_are_sound bytes told.functions told.input) told.is_assembly);
 }

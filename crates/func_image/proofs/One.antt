@@ -9,6 +9,7 @@ use Rattle.rv_image.specs.declared.image.Image.{Image}
 use Rattle.image_text.specs.Text.{image_text}
 use Rattle.run_refusal.specs.declared.refusal.Refusal.{Refusal}
 use Rattle.run_refusal.specs.declared.refusal.Refusal.TheVariants as refusal
+use Rattle.pass_name.specs.declared.road.Road.TheVariants.{Usual}
 use Rattle.md_forms.specs.declared.form.Entry.{Entry}
 use Rattle.func_input.specs.Input.{IsInput}
 use Rattle.func_input.specs.Outcome.{Outcome}
@@ -40,11 +41,11 @@ apart e a is = absurd (let none : ⊥ = cc in none)
 
 module _ (forms : List Entry) where
   pub one_words : (functions : List Function) (a b : Outcome) → WordsCome forms functions a → WordsCome forms functions b → a ≡ b
-  one_words functions _ _ (WordsCome.refused e comes) (WordsCome.refused d comes') = same_refusal e d (one_assembly forms functions (Err e) (Err d) comes comes')
-  one_words functions _ _ (WordsCome.refused e comes) (WordsCome.assembled a o comes' own) = apart e a (one_assembly forms functions (Err e) (Ok a) comes comes')
-  one_words functions _ _ (WordsCome.assembled a o comes own) (WordsCome.refused e comes') = apart e a (one_assembly forms functions (Err e) (Ok a) comes' comes)
+  one_words functions _ _ (WordsCome.refused e comes) (WordsCome.refused d comes') = same_refusal e d (one_assembly forms Usual functions (Err e) (Err d) comes comes')
+  one_words functions _ _ (WordsCome.refused e comes) (WordsCome.assembled a o comes' own) = apart e a (one_assembly forms Usual functions (Err e) (Ok a) comes comes')
+  one_words functions _ _ (WordsCome.assembled a o comes own) (WordsCome.refused e comes') = apart e a (one_assembly forms Usual functions (Err e) (Ok a) comes' comes)
   one_words functions _ _ (WordsCome.assembled a o comes own) (WordsCome.assembled b p comes' own') =
-      let same : a ≡ b = same_assembly a b (one_assembly forms functions (Ok a) (Ok b) comes comes') in
+      let same : a ≡ b = same_assembly a b (one_assembly forms Usual functions (Ok a) (Ok b) comes comes') in
       one_units (units_of functions b.parts) o p (subst (λ (x : Assembly). UnitsCome (units_of functions x.parts) o) same own) own'
 
   pub one_image_of : (bytes : List ℕ) (a b : Outcome) → ImageComes forms bytes a → ImageComes forms bytes b → a ≡ b
@@ -54,12 +55,12 @@ module _ (forms : List Entry) where
 
   record Written (functions : List Function) (text : List ℕ) : Type 0 where
     pub assembly : Assembly
-    pub comes : AssemblyComes forms functions (Ok assembly)
+    pub comes : AssemblyComes forms Usual functions (Ok assembly)
     pub image : Image
     pub is_image : IsImage (units_of functions assembly.parts) image
     pub text_is : text ≡ image_text image
 
-  units_written : (functions : List Function) (a : Assembly) (text : List ℕ) (o : Outcome) → o ≡ Ok text → AssemblyComes forms functions (Ok a) → UnitsCome (units_of functions a.parts) o → Written functions text
+  units_written : (functions : List Function) (a : Assembly) (text : List ℕ) (o : Outcome) → o ≡ Ok text → AssemblyComes forms Usual functions (Ok a) → UnitsCome (units_of functions a.parts) o → Written functions text
   units_written functions a text _ is comes (UnitsCome.written image is_image) =
       record { assembly = a; comes = comes; image = image; is_image = is_image; text_is = (let same : text ≡ image_text image = cc in same) }
   units_written functions a text _ is comes (UnitsCome.too_long size long) = absurd (let none : ⊥ = cc in none)
@@ -76,7 +77,7 @@ module _ (forms : List Entry) where
         functions = r.functions;
         input = r.input;
         assembly = w.assembly;
-        is_assembly = is_assembly forms r.functions w.assembly w.comes;
+        is_assembly = is_assembly forms Usual r.functions w.assembly w.comes;
         image = w.image;
         is_image = w.is_image;
         text_is = w.text_is;

@@ -10,6 +10,7 @@ use Rattle.rv_image.specs.declared.image.Image.{Image}
 use Rattle.image_text.specs.Text.{image_text}
 use Rattle.run_refusal.specs.declared.refusal.Refusal.{Refusal}
 use Rattle.run_refusal.specs.declared.refusal.Refusal.TheVariants as refusal
+use Rattle.pass_name.specs.declared.road.Road.TheVariants.{Usual}
 use Rattle.md_forms.specs.declared.form.Entry.{Entry}
 use Rattle.func_input.specs.Input.{IsInput, InputComesTo}
 use Rattle.func_input.specs.Outcome.{Outcome}
@@ -32,9 +33,9 @@ pub data UnitsCome (units : List CodeUnit) : Outcome → Type 0 where
 
 -- what some functions come to: what refuses their assembly, or what its lines come to
 pub data WordsCome (forms : List Entry) (functions : List Function) : Outcome → Type 0 where
-  refused : (e : Refusal) → AssemblyComes forms functions (Err e) →
+  refused : (e : Refusal) → AssemblyComes forms Usual functions (Err e) →
       WordsCome forms functions (Err e)
-  assembled : (a : Assembly) (outcome : Outcome) → AssemblyComes forms functions (Ok a) →
+  assembled : (a : Assembly) (outcome : Outcome) → AssemblyComes forms Usual functions (Ok a) →
       UnitsCome (units_of functions a.parts) outcome → WordsCome forms functions outcome
 
 -- what the bytes of an input come to
@@ -46,7 +47,7 @@ pub record TellsImage (forms : List Entry) (bytes text : List ℕ) : Type 0 wher
   pub functions : List Function
   pub input : IsInput bytes functions
   pub assembly : Assembly
-  pub is_assembly : IsAssembly forms 0 functions assembly
+  pub is_assembly : IsAssembly forms Usual 0 functions assembly
   pub image : Image
   pub is_image : IsImage (units_of functions assembly.parts) image
   pub text_is : text ≡ image_text image
@@ -54,6 +55,6 @@ pub record TellsImage (forms : List Entry) (bytes text : List ℕ) : Type 0 wher
 -- some functions have an assembly, and its lines an image
 pub record HaveImage (forms : List Entry) (functions : List Function) : Type 0 where
   pub assembly : Assembly
-  pub comes : AssemblyComes forms functions (Ok assembly)
+  pub comes : AssemblyComes forms Usual functions (Ok assembly)
   pub image : Image
   pub is_image : IsImage (units_of functions assembly.parts) image

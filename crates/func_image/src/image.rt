@@ -12,6 +12,7 @@ use func_input::read_functions;
 use image_text::text_of;
 use law_assembly::compile;
 use md_desc::Description;
+use pass_name::Road;
 use plain_data::{Items, Memory};
 use rtx_tree::{Function, Limit};
 use run_refusal::Refusal;
@@ -62,7 +63,7 @@ fn image_read(
 ) -> Result<Vec<u8>, Refusal>
     ensures { Gives result (FunctionsComeTo (WordsCome description.now) functions.now) }
 {
-    let assembly = compile(alloc, description, functions)?;
+    let assembly = compile(alloc, description, Road::Usual, functions)?;
     let units = units_of(alloc, functions, assembly.parts)?;
     units_text(alloc, units.as_slice())
 }

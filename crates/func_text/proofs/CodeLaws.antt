@@ -4,6 +4,7 @@ use Rattle.rtx_tree.specs.declared.function.Function.{Function}
 use Rattle.rv_text.specs.declared.line.CodeItem.{CodeItem}
 use Rattle.run_refusal.specs.declared.refusal.Refusal.{Refusal}
 use Rattle.run_refusal.specs.declared.refusal.Refusal.TheVariants as refusal
+use Rattle.pass_name.specs.declared.road.Road.TheVariants.{Usual}
 use Rattle.md_forms.specs.declared.form.Entry.{Entry}
 use Rattle.func_input.specs.Refused.{first_refused}
 use Rattle.func_input.specs.Input.{IsRead, IsInput, FunctionsComeTo, RefusesWith}
@@ -43,17 +44,17 @@ module _ (forms : List Entry) where
   one_name functions name _ _ (NameComes.unnamed missing) (NameComes.refused place e held comes) = absurd (no_place (place_named functions name) place held missing)
   one_name functions name _ _ (NameComes.unnamed missing) (NameComes.coded place x c held comes at) = absurd (no_place (place_named functions name) place held missing)
   one_name functions name _ _ (NameComes.refused place e held comes) (NameComes.unnamed missing) = absurd (no_place (place_named functions name) place held missing)
-  one_name functions name _ _ (NameComes.refused place e held comes) (NameComes.refused place' d held' comes') = same_err e d (one_coming forms functions (Err e) (Err d) comes comes')
-  one_name functions name _ _ (NameComes.refused place e held comes) (NameComes.coded place' x c held' comes' at) = absurd (err_apart e x (one_coming forms functions (Err e) (Ok x) comes comes'))
+  one_name functions name _ _ (NameComes.refused place e held comes) (NameComes.refused place' d held' comes') = same_err e d (one_coming forms Usual functions (Err e) (Err d) comes comes')
+  one_name functions name _ _ (NameComes.refused place e held comes) (NameComes.coded place' x c held' comes' at) = absurd (err_apart e x (one_coming forms Usual functions (Err e) (Ok x) comes comes'))
   one_name functions name _ _ (NameComes.coded place x c held comes at) (NameComes.unnamed missing) = absurd (no_place (place_named functions name) place held missing)
-  one_name functions name _ _ (NameComes.coded place x c held comes at) (NameComes.refused place' e held' comes') = absurd (err_apart e x (one_coming forms functions (Err e) (Ok x) comes' comes))
+  one_name functions name _ _ (NameComes.coded place x c held comes at) (NameComes.refused place' e held' comes') = absurd (err_apart e x (one_coming forms Usual functions (Err e) (Ok x) comes' comes))
   one_name functions name _ _ (NameComes.coded place x c held comes at) (NameComes.coded place' y d held' comes' at') =
-      let whole : x ≡ y = same_ok x y (one_coming forms functions (Ok x) (Ok y) comes comes') in
+      let whole : x ≡ y = same_ok x y (one_coming forms Usual functions (Ok x) (Ok y) comes comes') in
       let here : place ≡ place' = (let e : Some place ≡ Some place' = sym held ∙ held' in cc) in
       ap (λ (k : Coded). Ok k) (same_coded functions y place' c d (subst (λ (p : ℕ). IsCodedAt functions y p c) here (subst (λ (z : Assembly). IsCodedAt functions z place c) whole at)) at')
 
   pub one_code : (bytes name : List ℕ) (a b : Answer) → CodeComes forms bytes name a → CodeComes forms bytes name b → a ≡ b
-  one_code bytes name _ _ (CodeComes.unread e never comes) (CodeComes.unread d never' comes') = same_err e d (one_coming_of forms bytes (Err e) (Err d) comes comes')
+  one_code bytes name _ _ (CodeComes.unread e never comes) (CodeComes.unread d never' comes') = same_err e d (one_coming_of forms Usual bytes (Err e) (Err d) comes comes')
   one_code bytes name _ _ (CodeComes.unread e never comes) (CodeComes.read functions b reads comes') = absurd (never functions reads)
   one_code bytes name _ _ (CodeComes.read functions a reads comes) (CodeComes.unread e never comes') = absurd (never functions reads)
   one_code bytes name _ _ (CodeComes.read functions a reads comes) (CodeComes.read functions' b reads' comes') =
@@ -64,28 +65,28 @@ module _ (forms : List Entry) where
   -- functions that have an assembly
   pub record HasAssembly (functions : List Function) (a : Assembly) : Type 0 where
     pub admitted : first_refused functions ≡ None
-    pub own : AssemblyComes forms functions (Ok a)
+    pub own : AssemblyComes forms Usual functions (Ok a)
 
-  pub has_assembly : (functions : List Function) (o : Outcome) (a : Assembly) → o ≡ Ok a → FunctionsCome forms functions o → HasAssembly functions a
+  pub has_assembly : (functions : List Function) (o : Outcome) (a : Assembly) → o ≡ Ok a → FunctionsCome forms Usual functions o → HasAssembly functions a
   has_assembly functions _ a is (FunctionsComeTo.refused e first) = absurd (let none : ⊥ = cc in none)
-  has_assembly functions _ a is (FunctionsComeTo.admitted o none own) = record { admitted = none; own = subst (AssemblyComes forms functions) is own }
+  has_assembly functions _ a is (FunctionsComeTo.admitted o none own) = record { admitted = none; own = subst (AssemblyComes forms Usual functions) is own }
 
   -- each of them has its part
-  pub parts_of : (functions : List Function) (a : Assembly) → FunctionsCome forms functions (Ok a) → length a.parts ≡ length functions
-  parts_of functions a comes = let has = has_assembly functions (Ok a) a refl comes in parts_count forms 0 functions a (is_assembly forms functions a has.own)
+  pub parts_of : (functions : List Function) (a : Assembly) → FunctionsCome forms Usual functions (Ok a) → length a.parts ≡ length functions
+  parts_of functions a comes = let has = has_assembly functions (Ok a) a refl comes in parts_count forms Usual 0 functions a (is_assembly forms Usual functions a has.own)
 
   coded_of : (bytes name : List ℕ) (c : Coded) (functions : List Function) (a : Answer) → IsRead bytes functions → a ≡ Ok c → NameComes forms functions name a → IsCoded forms bytes name c
   coded_of bytes name c functions _ reads is (NameComes.unnamed missing) = absurd (let none : ⊥ = cc in none)
   coded_of bytes name c functions _ reads is (NameComes.refused place e held comes) = absurd (let none : ⊥ = cc in none)
   coded_of bytes name c functions _ reads is (NameComes.coded place a d held comes at) =
       let has = has_assembly functions (Ok a) a refl comes in
-      let lines = is_assembly forms functions a has.own in
+      let lines = is_assembly forms Usual functions a has.own in
       record {
         functions = functions;
         input = record { within = reads.within; trees = reads.trees; reads = reads.reads; stand = reads.stand; admitted = has.admitted };
         assembly = a;
         is_assembly = lines;
-        are = are_parts forms 0 functions a lines;
+        are = are_parts forms Usual 0 functions a lines;
         place = place;
         named = held;
         coded = subst (IsCodedAt functions a place) (let same : d ≡ c = cc in same) at;
@@ -101,14 +102,14 @@ module _ (forms : List Entry) where
   not_missing None is missing = cc
   not_missing (Some place) is missing = cc
 
-  name_has : (functions : List Function) (name : List ℕ) (x : Assembly) (a : Answer) → first_refused functions ≡ None → AssemblyComes forms functions (Ok x) → has_named functions name ≡ true → NameComes forms functions name a → (c : Coded) × (a ≡ Ok c)
+  name_has : (functions : List Function) (name : List ℕ) (x : Assembly) (a : Answer) → first_refused functions ≡ None → AssemblyComes forms Usual functions (Ok x) → has_named functions name ≡ true → NameComes forms functions name a → (c : Coded) × (a ≡ Ok c)
   name_has functions name x _ none own named (NameComes.unnamed missing) = absurd (not_missing (place_named functions name) named missing)
   name_has functions name x _ none own named (NameComes.refused place e held comes) =
-      absurd (err_apart e x (one_assembly forms functions (Err e) (Ok x) (admitted_last (AssemblyComes forms) functions (Err e) none comes) own))
+      absurd (err_apart e x (one_assembly forms Usual functions (Err e) (Ok x) (admitted_last (AssemblyComes forms Usual) functions (Err e) none comes) own))
   name_has functions name x _ none own named (NameComes.coded place a c held comes at) = (c, refl)
 
   -- a function of an input that has an assembly has its code
-  pub code_has : (bytes name : List ℕ) (functions : List Function) (x : Assembly) (a : Answer) → IsInput bytes functions → AssemblyComes forms functions (Ok x) → has_named functions name ≡ true → CodeComes forms bytes name a → (c : Coded) × (a ≡ Ok c)
+  pub code_has : (bytes name : List ℕ) (functions : List Function) (x : Assembly) (a : Answer) → IsInput bytes functions → AssemblyComes forms Usual functions (Ok x) → has_named functions name ≡ true → CodeComes forms bytes name a → (c : Coded) × (a ≡ Ok c)
   code_has bytes name functions x _ input own named (CodeComes.unread e never comes) = absurd (never functions (record { within = input.within; trees = input.trees; reads = input.reads; stand = input.stand }))
   code_has bytes name functions x _ input own named (CodeComes.read functions' a reads comes) =
       let same : functions' ≡ functions = one_read bytes functions' functions reads (record { within = input.within; trees = input.trees; reads = input.reads; stand = input.stand }) in
@@ -117,7 +118,7 @@ module _ (forms : List Entry) where
   -- ---- from what the calls gave
 
   -- what refuses the functions refuses the name
-  pub name_refused : (functions : List Function) (name : List ℕ) (place : ℕ) (e : Refusal) → place_named functions name ≡ Some place → RefusesWith e (FunctionsCome forms functions) → Gives (Err e) (NameComes forms functions name)
+  pub name_refused : (functions : List Function) (name : List ℕ) (place : ℕ) (e : Refusal) → place_named functions name ≡ Some place → RefusesWith e (FunctionsCome forms Usual functions) → Gives (Err e) (NameComes forms functions name)
   name_refused functions name place refusal.Memory named h = tt
   name_refused functions name place refusal.Usage named h = absurd h
   name_refused functions name place refusal.ReadFault named h = absurd h
@@ -131,7 +132,7 @@ module _ (forms : List Entry) where
   name_refused functions name place (refusal.NotEquated function uid rule item left right) named h = NameComes.refused place (refusal.NotEquated function uid rule item left right) named h
 
   -- what refuses the bytes before they are functions refuses the name
-  pub unread_refused : (bytes name : List ℕ) (e : Refusal) → ((e ≡ refusal.Memory → ⊥) → (functions : List Function) → IsRead bytes functions → ⊥) → RefusesWith e (InputComes forms bytes) → Gives (Err e) (CodeComes forms bytes name)
+  pub unread_refused : (bytes name : List ℕ) (e : Refusal) → ((e ≡ refusal.Memory → ⊥) → (functions : List Function) → IsRead bytes functions → ⊥) → RefusesWith e (InputComes forms Usual bytes) → Gives (Err e) (CodeComes forms bytes name)
   unread_refused bytes name refusal.Memory never h = tt
   unread_refused bytes name refusal.Usage never h = absurd h
   unread_refused bytes name refusal.ReadFault never h = absurd h

@@ -4,6 +4,7 @@ use Rattle.rtx_tree.specs.declared.function.Function.{Function}
 use Rattle.md_forms.specs.declared.form.Entry.{Entry}
 use Rattle.rtl_print.specs.Canonical.{printed_function}
 use Rattle.pass_name.specs.declared.pass.Pass.{Pass}
+use Rattle.pass_name.specs.declared.road.Road.TheVariants.{Usual}
 use Rattle.func_input.specs.Outcome.{Outcome}
 use Rattle.func_after.specs.After.{Answer, IsBehind}
 use Rattle.func_after.proofs.OneAfter.{one_behind}
@@ -18,7 +19,7 @@ told (Err e) = Err e
 -- an outcome is told of an answer
 record Tells (forms : List Entry) (pass : Pass) (f : Function) (o : Outcome) : Type 0 where
   pub answer : Answer
-  pub is_after : IsBehind forms f pass answer
+  pub is_after : IsBehind forms Usual f pass answer
   pub is_told : o ≡ told answer
 
 tells : (forms : List Entry) (pass : Pass) (f : Function) (o : Outcome) → FunctionComes forms pass f o → Tells forms pass f o
@@ -29,7 +30,7 @@ function_one : (forms : List Entry) (pass : Pass) (f : Function) (a b : Outcome)
 function_one forms pass f a b m n =
     let one = tells forms pass f a m in
     let other = tells forms pass f b n in
-    one.is_told ∙ ap told (one_behind forms f pass one.answer other.answer one.is_after other.is_after) ∙ sym other.is_told
+    one.is_told ∙ ap told (one_behind forms Usual f pass one.answer other.answer one.is_after other.is_after) ∙ sym other.is_told
 
 pub functions_one : (forms : List Entry) (pass : Pass) (fs : List Function) (a b : Outcome) → FunctionsCome forms pass fs a → FunctionsCome forms pass fs b → a ≡ b
 functions_one forms pass fs a b m n = one_each (FunctionComes forms pass) (function_one forms pass) fs a b m n

@@ -3,6 +3,7 @@ use Rattle.std.proofs.Common.{◌≡◌, ℕ, List, Ok, Err, refl, ap, subst}
 use Rattle.rtx_tree.specs.declared.function.Insn.{Insn}
 use Rattle.rtx_tree.specs.declared.function.Function.{Function}
 use Rattle.run_refusal.specs.declared.refusal.Refusal.{Refusal}
+use Rattle.pass_name.specs.declared.road.Road.TheVariants.{Usual}
 use Rattle.md_forms.specs.declared.form.Entry.{Entry}
 use Rattle.md_forms.specs.Forms.{names_of}
 use Rattle.md_desc.specs.declared.output.Chosen.{Chosen}
@@ -38,9 +39,9 @@ module _ (es : List Entry) (function : List ℕ) (i : Insn) where
 -- ---- functions
 
 module _ (es : List Entry) where
-  not_both : {P : Type 0} (f : Function) (e : Refusal) (m : Made) → AfterComes es f (Err e) → AfterComes es f (Ok m) → P
+  not_both : {P : Type 0} (f : Function) (e : Refusal) (m : Made) → AfterComes es Usual f (Err e) → AfterComes es Usual f (Ok m) → P
   not_both f e m wrong after =
-      absurd (let same : ◌≡◌ {A = Answer} (Err e) (Ok m) = one_after es f (Err e) (Ok m) wrong after in let never : ⊥ = cc in never)
+      absurd (let same : ◌≡◌ {A = Answer} (Err e) (Ok m) = one_after es Usual f (Err e) (Ok m) wrong after in let never : ⊥ = cc in never)
 
   same_err : (e d : Refusal) → ◌≡◌ {A = Answer} (Err e) (Err d) → ◌≡◌ {A = Outcome} (Err e) (Err d)
   same_err e d is = ap (λ (x : Refusal). Err x) (let same : e ≡ d = cc in same)
@@ -49,12 +50,12 @@ module _ (es : List Entry) where
   same_chain m n is = ap (λ (k : Made). k.function.insns) (let same : m ≡ n = cc in same)
 
   function_one : (f : Function) (a b : Outcome) → FunctionComes es f a → FunctionComes es f b → a ≡ b
-  function_one f _ _ (FunctionComes.refused e after) (FunctionComes.refused d after') = same_err e d (one_after es f (Err e) (Err d) after after')
+  function_one f _ _ (FunctionComes.refused e after) (FunctionComes.refused d after') = same_err e d (one_after es Usual f (Err e) (Err d) after after')
   function_one f _ _ (FunctionComes.refused e after) (FunctionComes.printed m b after' out') = not_both f e m after after'
   function_one f _ _ (FunctionComes.printed m a after out) (FunctionComes.refused d after') = not_both f d m after' after
   function_one f _ _ (FunctionComes.printed m a after out) (FunctionComes.printed n b after' out') =
       one_each (OutputComes es f.name) (output_one es f.name) n.function.insns a b
-      (subst (λ x. EachComes (OutputComes es f.name) x a) (same_chain m n (one_after es f (Ok m) (Ok n) after after')) out) out'
+      (subst (λ x. EachComes (OutputComes es f.name) x a) (same_chain m n (one_after es Usual f (Ok m) (Ok n) after after')) out) out'
 
   pub functions_one : (fs : List Function) (a b : Outcome) → FunctionsCome es fs a → FunctionsCome es fs b → a ≡ b
   functions_one fs a b m n = one_each (FunctionComes es) function_one fs a b m n

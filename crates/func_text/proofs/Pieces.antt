@@ -3,6 +3,7 @@ use Rattle.std.proofs.Common.{◌≡◌, ℕ, List, [], ◌∷◌, ◌++◌, len
 use Rattle.rtx_tree.specs.declared.function.Function.{Function}
 use Rattle.rv_text.specs.declared.line.CodeItem.{CodeItem}
 use Rattle.run_refusal.specs.declared.refusal.Refusal.{Refusal}
+use Rattle.pass_name.specs.declared.road.Road.{Road}
 use Rattle.md_forms.specs.declared.form.Entry.{Entry}
 use Rattle.func_input.specs.Input.{RefusesWith}
 use Rattle.func_input.specs.machine.Steps.{IsOrMemory}
@@ -40,21 +41,21 @@ piece_refused forms number size f m e told r is =
 
 -- ---- a function
 
-written_comes : (forms : List Entry) (number size : ℕ) (f : Function) (m : Made) (told : Outcome) → AfterComes forms f (Ok m) →
-    WrittenComes forms number size f m told → FunctionComes forms number size f told
-written_comes forms number size f m told after w =
-    subst (FunctionComes forms number size f) (sym w.2) (FunctionComes.written m w.0 after w.1)
+written_comes : (forms : List Entry) (road : Road) (number size : ℕ) (f : Function) (m : Made) (told : Outcome) → AfterComes forms road f (Ok m) →
+    WrittenComes forms number size f m told → FunctionComes forms road number size f told
+written_comes forms road number size f m told after w =
+    subst (FunctionComes forms road number size f) (sym w.2) (FunctionComes.written m w.0 after w.1)
 
-pub next_comes : (forms : List Entry) (number size : ℕ) (f : Function) (m : Made) (text text' : List ℕ)
-    (parts parts' : List (List CodeItem)) (r : Result Summary Refusal) → AfterComes forms f (Ok m) →
+pub next_comes : (forms : List Entry) (road : Road) (number size : ℕ) (f : Function) (m : Made) (text text' : List ℕ)
+    (parts parts' : List (List CodeItem)) (r : Result Summary Refusal) → AfterComes forms road f (Ok m) →
     AppendsAssembly text text' parts parts' r (WrittenComes forms number size f m) →
-    AppendsAssembly text text' parts parts' r (FunctionComes forms number size f)
-next_comes forms number size f m text text' parts parts' (Ok x) after w =
-    (w.0, written_comes forms number size f m (Ok w.0) after w.1, w.2, w.3, w.4)
-next_comes forms number size f m text text' parts parts' (Err e) after w =
-    refuses_map e (WrittenComes forms number size f m) (FunctionComes forms number size f)
-    (λ e w. written_comes forms number size f m (Err e) after w) w
+    AppendsAssembly text text' parts parts' r (FunctionComes forms road number size f)
+next_comes forms road number size f m text text' parts parts' (Ok x) after w =
+    (w.0, written_comes forms road number size f m (Ok w.0) after w.1, w.2, w.3, w.4)
+next_comes forms road number size f m text text' parts parts' (Err e) after w =
+    refuses_map e (WrittenComes forms number size f m) (FunctionComes forms road number size f)
+    (λ e w. written_comes forms road number size f m (Err e) after w) w
 
 -- what refuses it before output refuses it
-pub next_refused : (forms : List Entry) (number size : ℕ) (f : Function) (e : Refusal) → RefusesWith e (AfterComes forms f) → RefusesWith e (FunctionComes forms number size f)
-next_refused forms number size f e r = refuses_map e (AfterComes forms f) (FunctionComes forms number size f) (λ e after. FunctionComes.refused e after) r
+pub next_refused : (forms : List Entry) (road : Road) (number size : ℕ) (f : Function) (e : Refusal) → RefusesWith e (AfterComes forms road f) → RefusesWith e (FunctionComes forms road number size f)
+next_refused forms road number size f e r = refuses_map e (AfterComes forms road f) (FunctionComes forms road number size f) (λ e after. FunctionComes.refused e after) r

@@ -4,6 +4,7 @@ use Rattle.std.proofs.lemmas.List.{append-nil, length-append}
 use Rattle.rtx_tree.specs.declared.function.Function.{Function}
 use Rattle.rv_text.specs.declared.line.CodeItem.{CodeItem}
 use Rattle.run_refusal.specs.declared.refusal.Refusal.{Refusal}
+use Rattle.pass_name.specs.declared.road.Road.{Road}
 use Rattle.md_forms.specs.declared.form.Entry.{Entry}
 use Rattle.func_input.specs.Input.{RefusesWith}
 use Rattle.func_input.proofs.Refusing.{refuses_map}
@@ -71,49 +72,49 @@ behind_nothing (Ok a) = ap (λ (x : Assembly). Ok x) (same_assembly (joined noth
 behind_nothing (Err e) = refl
 
 -- what is left comes to, with what is there, what all come to
-pub record Makes (forms : List Entry) (functions : List Function) (number : ℕ) (text : List ℕ) (parts : List (List CodeItem))
+pub record Makes (forms : List Entry) (road : Road) (functions : List Function) (number : ℕ) (text : List ℕ) (parts : List (List CodeItem))
     (summary : Summary) (rest : List Function) : Type 0 where
-  pub makes : (more : Outcome) → AreWritten forms number (length text) rest more →
-      AssemblyComes forms functions (outcome_behind (assembly text parts summary) more)
+  pub makes : (more : Outcome) → AreWritten forms road number (length text) rest more →
+      AssemblyComes forms road functions (outcome_behind (assembly text parts summary) more)
 
-pub makes_start : (forms : List Entry) (functions : List Function) → Makes forms functions 0 [] [] summaries.empty functions
-makes_start forms functions = record { makes = λ more written. subst (AssemblyComes forms functions) (sym (behind_nothing more)) written }
+pub makes_start : (forms : List Entry) (road : Road) (functions : List Function) → Makes forms road functions 0 [] [] summaries.empty functions
+makes_start forms road functions = record { makes = λ more written. subst (AssemblyComes forms road functions) (sym (behind_nothing more)) written }
 
 -- one more function was written
-pub makes_on : (forms : List Entry) (functions : List Function) (number : ℕ) (text text' : List ℕ) (parts parts' : List (List CodeItem))
+pub makes_on : (forms : List Entry) (road : Road) (functions : List Function) (number : ℕ) (text text' : List ℕ) (parts parts' : List (List CodeItem))
     (summary one : Summary) (f : Function) (rest : List Function) → number < 2 ^ 32 →
-    AppendsAssembly text text' parts parts' (Ok one) (FunctionComes forms number (length text) f) →
-    Makes forms functions number text parts summary (f ∷ rest) → Makes forms functions (number + 1) text' parts' (plus summary one) rest
-makes_on forms functions number text text' parts parts' summary one f rest small written so_far = record {
+    AppendsAssembly text text' parts parts' (Ok one) (FunctionComes forms road number (length text) f) →
+    Makes forms road functions number text parts summary (f ∷ rest) → Makes forms road functions (number + 1) text' parts' (plus summary one) rest
+makes_on forms road functions number text text' parts parts' summary one f rest small written so_far = record {
   makes = λ more others.
       let own = written.0 in
       let size : length text' ≡ length text + length own.text = ap length written.2 ∙ length-append text own.text in
-      let behind : AreWritten forms (number + 1) (length text + length own.text) rest more =
-      subst (λ n. AreWritten forms (number + 1) n rest more) size others in
+      let behind : AreWritten forms road (number + 1) (length text + length own.text) rest more =
+      subst (λ n. AreWritten forms road (number + 1) n rest more) size others in
       let whole : assembly text' parts' (plus summary one) ≡ joined (assembly text parts summary) own =
       same_assembly (assembly text' parts' (plus summary one)) (joined (assembly text parts summary) own) written.2 written.3
       (ap (plus summary) written.4) in
       let same : outcome_behind (assembly text' parts' (plus summary one)) more ≡
       outcome_behind (assembly text parts summary) (outcome_behind own more) =
       ap (λ (a : Assembly). outcome_behind a more) whole ∙ behind_both (assembly text parts summary) own more in
-      subst (AssemblyComes forms functions) (sym same)
+      subst (AssemblyComes forms road functions) (sym same)
       (so_far.makes (outcome_behind own more) (AreWritten.goes_on number (length text) f rest own more small written.1 behind));
 }
 
 -- one was refused
-pub makes_wrong : (forms : List Entry) (functions : List Function) (number : ℕ) (text : List ℕ) (parts : List (List CodeItem))
-    (summary : Summary) (f : Function) (rest : List Function) (e : Refusal) → RefusesWith e (FunctionComes forms number (length text) f) →
-    Makes forms functions number text parts summary (f ∷ rest) → RefusesWith e (AssemblyComes forms functions)
-makes_wrong forms functions number text parts summary f rest e r so_far =
-    refuses_map e (FunctionComes forms number (length text) f) (AssemblyComes forms functions)
+pub makes_wrong : (forms : List Entry) (road : Road) (functions : List Function) (number : ℕ) (text : List ℕ) (parts : List (List CodeItem))
+    (summary : Summary) (f : Function) (rest : List Function) (e : Refusal) → RefusesWith e (FunctionComes forms road number (length text) f) →
+    Makes forms road functions number text parts summary (f ∷ rest) → RefusesWith e (AssemblyComes forms road functions)
+makes_wrong forms road functions number text parts summary f rest e r so_far =
+    refuses_map e (FunctionComes forms road number (length text) f) (AssemblyComes forms road functions)
     (λ e comes. so_far.makes (Err e) (AreWritten.refused number (length text) f rest e comes)) r
 
 -- all were written
-pub makes_all : (forms : List Entry) (functions : List Function) (number : ℕ) (text : List ℕ) (parts : List (List CodeItem))
-    (summary : Summary) → Makes forms functions number text parts summary [] →
-    AssemblyComes forms functions (Ok (assembly text parts summary))
-makes_all forms functions number text parts summary so_far =
-    subst (λ (a : Assembly). AssemblyComes forms functions (Ok a))
+pub makes_all : (forms : List Entry) (road : Road) (functions : List Function) (number : ℕ) (text : List ℕ) (parts : List (List CodeItem))
+    (summary : Summary) → Makes forms road functions number text parts summary [] →
+    AssemblyComes forms road functions (Ok (assembly text parts summary))
+makes_all forms road functions number text parts summary so_far =
+    subst (λ (a : Assembly). AssemblyComes forms road functions (Ok a))
     (same_assembly (joined (assembly text parts summary) nothing) (assembly text parts summary) (append-nil text) (append-nil parts)
     (plus_empty summary))
     (so_far.makes (Ok nothing) (AreWritten.none number (length text)))

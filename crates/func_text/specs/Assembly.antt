@@ -4,6 +4,7 @@ use Rattle.std.specs.Prelude.{◌<◌, ◌^◌, ℕ, ◌+◌, List, [], ◌∷�
 use Rattle.rtx_tree.specs.declared.function.Function.{Function}
 use Rattle.pass_name.specs.declared.pass.Pass.TheVariants.{Output}
 use Rattle.run_refusal.specs.declared.refusal.Refusal.{Refusal}
+use Rattle.pass_name.specs.declared.road.Road.{Road}
 use Rattle.md_forms.specs.declared.form.Entry.{Entry}
 use Rattle.func_after.specs.After.{AfterComes, refused_for}
 use Rattle.func_after.specs.declared.made.Made.{Made}
@@ -45,25 +46,25 @@ told_for f m (Err e) = Err (refused_for f.name Output e)
 
 -- What a function with a number comes to behind a text of a size: what refuses it before output, or
 -- else what it comes to there.
-pub data FunctionComes (forms : List Entry) (number size : ℕ) (f : Function) : Outcome → Type 0 where
-  refused : (e : Refusal) → AfterComes forms f (Err e) → FunctionComes forms number size f (Err e)
-  written : (m : Made) (o : out_of.Outcome) → AfterComes forms f (Ok m) →
+pub data FunctionComes (forms : List Entry) (road : Road) (number size : ℕ) (f : Function) : Outcome → Type 0 where
+  refused : (e : Refusal) → AfterComes forms road f (Err e) → FunctionComes forms road number size f (Err e)
+  written : (m : Made) (o : out_of.Outcome) → AfterComes forms road f (Ok m) →
       out.FunctionComes forms number m.function size o →
-      FunctionComes forms number size f (told_for f m o)
+      FunctionComes forms road number size f (told_for f m o)
 
 -- ---- all
 
 -- What some functions come to behind a text of a size, where the first has a number: their texts in
 -- order, or the first refusal. A function's number has 32 bits.
-pub data AreWritten (forms : List Entry) : ℕ → ℕ → List Function → Outcome → Type 0 where
-  none : (number size : ℕ) → AreWritten forms number size [] (Ok nothing)
+pub data AreWritten (forms : List Entry) (road : Road) : ℕ → ℕ → List Function → Outcome → Type 0 where
+  none : (number size : ℕ) → AreWritten forms road number size [] (Ok nothing)
   refused : (number size : ℕ) (f : Function) (functions : List Function) (e : Refusal) →
-      FunctionComes forms number size f (Err e) →
-      AreWritten forms number size (f ∷ functions) (Err e)
+      FunctionComes forms road number size f (Err e) →
+      AreWritten forms road number size (f ∷ functions) (Err e)
   goes_on : (number size : ℕ) (f : Function) (functions : List Function) (one : Assembly) (rest : Outcome) → number < 2 ^ 32 →
-      FunctionComes forms number size f (Ok one) → AreWritten forms (number + 1) (size + length one.text) functions rest →
-      AreWritten forms number size (f ∷ functions) (outcome_behind one rest)
+      FunctionComes forms road number size f (Ok one) → AreWritten forms road (number + 1) (size + length one.text) functions rest →
+      AreWritten forms road number size (f ∷ functions) (outcome_behind one rest)
 
 -- the assembly of some functions, or the first refusal
-abbrev pub AssemblyComes : List Entry → List Function → Outcome → Type 0
-AssemblyComes forms = AreWritten forms 0 0
+abbrev pub AssemblyComes : List Entry → Road → List Function → Outcome → Type 0
+AssemblyComes forms road = AreWritten forms road 0 0

@@ -6,6 +6,7 @@ use Rattle.std.specs.Str.{bytes_eq}
 use Rattle.rtx_tree.specs.declared.function.Function.{Function}
 use Rattle.run_refusal.specs.declared.refusal.Refusal.{Refusal}
 use Rattle.run_refusal.specs.declared.refusal.Refusal.TheVariants as refusal
+use Rattle.pass_name.specs.declared.road.Road.TheVariants.{Usual}
 use Rattle.md_forms.specs.declared.form.Entry.{Entry}
 use Rattle.func_input.specs.Input.{IsRead, IsInput}
 use Rattle.func_text.specs.declared.assembly.Assembly.{Assembly}
@@ -47,16 +48,16 @@ Gives answer P = P answer
 pub data NameComes (forms : List Entry) (functions : List Function) (name : List ℕ) : Answer → Type 0 where
   unnamed : place_named functions name ≡ None → NameComes forms functions name (Err refusal.Usage)
   refused : (place : ℕ) (e : Refusal) → place_named functions name ≡ Some place →
-      FunctionsCome forms functions (Err e) → NameComes forms functions name (Err e)
+      FunctionsCome forms Usual functions (Err e) → NameComes forms functions name (Err e)
   coded : (place : ℕ) (a : Assembly) (c : Coded) → place_named functions name ≡ Some place →
-      FunctionsCome forms functions (Ok a) → IsCodedAt functions a place c →
+      FunctionsCome forms Usual functions (Ok a) → IsCodedAt functions a place c →
       NameComes forms functions name (Ok c)
 
 -- What a name comes to in the bytes of an input. Bytes that are not read as functions are refused
 -- as their assembly is.
 pub data CodeComes (forms : List Entry) (bytes name : List ℕ) : Answer → Type 0 where
   unread : (e : Refusal) → ((functions : List Function) → ¬ IsRead bytes functions) →
-      InputComes forms bytes (Err e) → CodeComes forms bytes name (Err e)
+      InputComes forms Usual bytes (Err e) → CodeComes forms bytes name (Err e)
   read : (functions : List Function) (answer : Answer) → IsRead bytes functions →
       NameComes forms functions name answer → CodeComes forms bytes name answer
 
@@ -71,7 +72,7 @@ pub record IsCoded (forms : List Entry) (bytes name : List ℕ) (c : Coded) : Ty
   pub functions : List Function
   pub input : IsInput bytes functions
   pub assembly : Assembly
-  pub is_assembly : IsAssembly forms 0 functions assembly
+  pub is_assembly : IsAssembly forms Usual 0 functions assembly
   pub are : AreParts functions assembly.text assembly.parts
   pub place : ℕ
   pub named : place_named functions name ≡ Some place

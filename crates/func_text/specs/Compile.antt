@@ -2,6 +2,7 @@
 -- refusal.
 use Rattle.std.specs.Prelude.{◌≡◌, ℕ, List, Ok, Err}
 use Rattle.rtx_tree.specs.declared.function.Function.{Function}
+use Rattle.pass_name.specs.declared.road.Road.{Road}
 use Rattle.md_forms.specs.declared.form.Entry.{Entry}
 use Rattle.func_input.specs.Input.{FunctionsComeTo, InputComesTo, RefusesWith}
 use Rattle.func_input.specs.Outcome as texts
@@ -9,12 +10,12 @@ use Rattle.func_text.specs.Assembly.{Outcome, AssemblyComes}
 
 -- What some functions come to: their assembly, or the first of them that is refused. Each is looked
 -- at before the text of any is made.
-abbrev pub FunctionsCome : List Entry → List Function → Outcome → Type 0
-FunctionsCome forms = FunctionsComeTo (AssemblyComes forms)
+abbrev pub FunctionsCome : List Entry → Road → List Function → Outcome → Type 0
+FunctionsCome forms road = FunctionsComeTo (AssemblyComes forms road)
 
 -- what the bytes of an input come to
-abbrev pub InputComes : List Entry → List ℕ → Outcome → Type 0
-InputComes forms = InputComesTo (AssemblyComes forms)
+abbrev pub InputComes : List Entry → Road → List ℕ → Outcome → Type 0
+InputComes forms road = InputComesTo (AssemblyComes forms road)
 
 -- the text of an assembly
 abbrev pub text_told : Outcome → texts.Outcome
@@ -22,8 +23,8 @@ text_told (Ok assembly) = Ok assembly.text
 text_told (Err e) = Err e
 
 -- what is told of the bytes of an input
-abbrev pub TextComes : List Entry → List ℕ → texts.Outcome → Type 0
-TextComes forms bytes told = (o : Outcome) × InputComes forms bytes o × (told ≡ text_told o)
+abbrev pub TextComes : List Entry → Road → List ℕ → texts.Outcome → Type 0
+TextComes forms road bytes told = (o : Outcome) × InputComes forms road bytes o × (told ≡ text_told o)
 
 -- what is told is given; a refusal is the one that is told; want of memory is free
 abbrev pub Gives : Outcome → (Outcome → Type 0) → Type 0

@@ -6,15 +6,16 @@ use Rattle.run_refusal.specs.declared.refusal.Refusal.{Refusal}
 use Rattle.md_forms.specs.declared.form.Entry.{Entry}
 use Rattle.rtl_print.specs.Canonical.{printed_function}
 use Rattle.pass_name.specs.declared.pass.Pass.{Pass}
+use Rattle.pass_name.specs.declared.road.Road.TheVariants.{Usual}
 use Rattle.func_input.specs.Outcome.{Outcome}
 use Rattle.func_after.specs.Each.{EachComes}
 use Rattle.func_after.specs.After.{IsBehind}
 use Rattle.func_after.specs.declared.made.Made.{Made}
 
--- a function: what refuses it on the way to the pass, or its text behind it
+-- a function: what refuses it on the usual road to the pass, or its text behind it
 pub data FunctionComes (forms : List Entry) (pass : Pass) (f : Function) : Outcome → Type 0 where
-  refused : (e : Refusal) → IsBehind forms f pass (Err e) → FunctionComes forms pass f (Err e)
-  printed : (m : Made) → IsBehind forms f pass (Ok m) →
+  refused : (e : Refusal) → IsBehind forms Usual f pass (Err e) → FunctionComes forms pass f (Err e)
+  printed : (m : Made) → IsBehind forms Usual f pass (Ok m) →
       FunctionComes forms pass f (Ok (printed_function m.function))
 
 -- some functions, one behind the other

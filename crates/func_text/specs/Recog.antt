@@ -7,6 +7,7 @@ use Rattle.rtx_tree.specs.declared.function.Insn.{Insn}
 use Rattle.rtx_tree.specs.declared.function.Function.{Function}
 use Rattle.pass_name.specs.declared.pass.Pass.TheVariants.{Output}
 use Rattle.run_refusal.specs.declared.refusal.Refusal.{Refusal}
+use Rattle.pass_name.specs.declared.road.Road.TheVariants.{Usual}
 use Rattle.md_forms.specs.declared.form.Entry.{Entry}
 use Rattle.md_forms.specs.Forms.{names_of}
 use Rattle.md_desc.specs.declared.output.Chosen.{Chosen}
@@ -37,8 +38,8 @@ pub data OutputComes (forms : List Entry) (function : List ℕ) (i : Insn) : Out
 
 -- a function: what a pass refuses, or else what all instructions come to that the passes make of it
 pub data FunctionComes (forms : List Entry) (f : Function) : Outcome → Type 0 where
-  refused : (e : Refusal) → AfterComes forms f (Err e) → FunctionComes forms f (Err e)
-  printed : (m : Made) (outcome : Outcome) → AfterComes forms f (Ok m) →
+  refused : (e : Refusal) → AfterComes forms Usual f (Err e) → FunctionComes forms f (Err e)
+  printed : (m : Made) (outcome : Outcome) → AfterComes forms Usual f (Ok m) →
       EachComes (OutputComes forms f.name) m.function.insns outcome →
       FunctionComes forms f outcome
 

@@ -6,6 +6,7 @@ use Rattle.rtx_tree.specs.declared.function.Function.{Function}
 use Rattle.rv_text.specs.Body.{Spells}
 use Rattle.rv_text.specs.declared.line.CodeItem.{CodeItem}
 use Rattle.same_behaviour.specs.Same.{Same}
+use Rattle.pass_name.specs.declared.road.Road.{Road}
 use Rattle.md_forms.specs.declared.form.Entry.{Entry}
 use Rattle.func_after.specs.law_insn_replaced.Sound.{IsSound}
 use Rattle.func_after.specs.After.{AfterComes}
@@ -48,14 +49,14 @@ AreSound functions = (index : ℕ) (f : Function) → slice_get functions index 
 
 -- the items of each function have its behaviour, in each frame that has the room at least of which
 -- the passes laid out its frame
-pub data AreSameFramed (forms : List Entry) : List Function → List (List CodeItem) → Type 0 where
-  none : AreSameFramed forms [] []
+pub data AreSameFramed (forms : List Entry) (road : Road) : List Function → List (List CodeItem) → Type 0 where
+  none : AreSameFramed forms road [] []
   function : (f : Function) (m : Made) (functions : List Function) (items : List CodeItem) (others : List (List CodeItem)) →
-      AfterComes forms f (Ok m) → Same m.layout.size f items → AreSameFramed forms functions others →
-      AreSameFramed forms (f ∷ functions) (items ∷ others)
+      AfterComes forms road f (Ok m) → Same m.layout.size f items → AreSameFramed forms road functions others →
+      AreSameFramed forms road (f ∷ functions) (items ∷ others)
 
 -- so does the text that was written by some forms
-pub record DoesSameFramed (forms : List Entry) (functions : List Function) (text : List ℕ) : Type 0 where
+pub record DoesSameFramed (forms : List Entry) (road : Road) (functions : List Function) (text : List ℕ) : Type 0 where
   pub items : List (List CodeItem)
   pub parts : AreParts functions text items
-  pub same : AreSameFramed forms functions items
+  pub same : AreSameFramed forms road functions items

@@ -9,7 +9,7 @@ use asm_out::write_function;
 use func_after::{Made, after, refused_at};
 use func_input::next_number;
 use md_desc::Description;
-use pass_name::Pass;
+use pass_name::{Pass, Road};
 use plain_data::Items;
 use rtx_tree::{Function, Name};
 use run_refusal::Refusal;
@@ -58,36 +58,38 @@ fn write_after(
     }
 }
 
-/// Appends the text and the items of a function with a number, and gives its summary.
+/// Appends the text and the items of a function with a number by a road, and gives its summary.
 fn write_next(
     alloc: Global,
     description: &Description,
+    road: Road,
     number: u32,
     f: &Function,
     text: &mut Vec<u8>,
     parts: &mut Parts,
 ) -> Result<Summary, Refusal>
     ensures { AppendsAssembly text.old.items text.new.items parts.old parts.new result
-        (FunctionComes description.now number (length text.old.items) f.now) }
+        (FunctionComes description.now road number (length text.old.items) f.now) }
 {
-    let made = after(alloc, description, f)?;
+    let made = after(alloc, description, road, f)?;
     write_after(alloc, description, number, f, &made, text, parts)
 }
 
-/// The assembly of some functions, in order, each with its number from 0 on.
+/// The assembly of some functions by a road, in order, each with its number from 0 on.
 pub(crate) fn assemble(
     alloc: Global,
     description: &Description,
+    road: Road,
     functions: &[Function],
 ) -> Result<Assembly, Refusal>
-    ensures { Gives result (AssemblyComes description.now functions.now) }
+    ensures { Gives result (AssemblyComes description.now road functions.now) }
 {
     let mut text = Vec::new(alloc);
     let mut parts = Items::new(alloc);
     let mut summary = empty();
     let mut number: u32 = 0;
     for f in functions {
-        let one = write_next(alloc, description, number, f, &mut text, &mut parts)?;
+        let one = write_next(alloc, description, road, number, f, &mut text, &mut parts)?;
         summary = plus(summary, one)?;
         number = next_number(number)?;
     }

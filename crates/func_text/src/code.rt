@@ -9,6 +9,7 @@ use crate::assembly::{Assembly, CodeItems};
 use crate::input::compile;
 use func_input::read_functions;
 use md_desc::Description;
+use pass_name::Road;
 use rtx_tree::{Function, Functions};
 use run_refusal::Refusal;
 use std::alloc::Global;
@@ -57,7 +58,7 @@ fn name_comes(
     let Some(place) = place_named(functions.as_slice(), name) else {
         return Err(Refusal::Usage);
     };
-    let assembly = compile(alloc, description, functions.as_slice())?;
+    let assembly = compile(alloc, description, Road::Usual, functions.as_slice())?;
     Ok(coded_at(functions, assembly, place))
 }
 

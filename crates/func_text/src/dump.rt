@@ -11,7 +11,7 @@ ghost use Rattle.func_text.specs.Dump.{FunctionComes, FunctionsCome};
 use func_after::behind;
 use func_input::{check_functions, read_functions};
 use md_desc::Description;
-use pass_name::Pass;
+use pass_name::{Pass, Road};
 use rtl_print::print_function;
 use rtx_tree::Function;
 use run_refusal::Refusal;
@@ -27,7 +27,7 @@ fn dump_function(
 ) -> Result<(), Refusal>
     ensures { AppendedSome out.old.items out.new.items result (FunctionComes desc.now pass f.now) }
 {
-    let made = behind(alloc, desc, f, pass)?;
+    let made = behind(alloc, desc, Road::Usual, f, pass)?;
     Ok(print_function(&made.function, out)?)
 }
 

@@ -13,6 +13,7 @@ use func_after::after;
 use func_input::{check_functions, read_functions};
 use md_desc::Description;
 use md_forms::names_of;
+use pass_name::Road;
 use rtx_tree::{Function, Name};
 use run_refusal::Refusal;
 use std::alloc::Global;
@@ -29,7 +30,7 @@ fn print_function(
     requires { names.now ≡ names_of desc.now }
     ensures { AppendedSome out.old.items out.new.items result (FunctionComes desc.now f.now) }
 {
-    let made = after(alloc, desc, f)?;
+    let made = after(alloc, desc, Road::Usual, f)?;
     let insns = made.function.insns.as_slice();
     print_insns(alloc, desc, names, &f.name, insns, out)
 }

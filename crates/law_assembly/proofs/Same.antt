@@ -3,6 +3,8 @@ use Rattle.std.proofs.Common.{◌≡◌, ◌≤◌, ℕ, zero, suc, List, Ok, So
 use Rattle.std.specs.Prelude.{slice_get}
 use Rattle.rtx_tree.specs.declared.function.Function.{Function}
 use Rattle.rv_text.specs.declared.line.CodeItem.{CodeItem}
+use Rattle.pass_name.specs.declared.road.Road.{Road}
+use Rattle.pass_name.specs.declared.road.Road.TheVariants.{Usual}
 use Rattle.md_forms.specs.declared.form.Entry.{Entry}
 use Rattle.func_input.specs.Input.{IsInput}
 use Rattle.law_reading.proofs.law_rules.Kept.{each_admitted}
@@ -31,30 +33,30 @@ input_are_sound bytes functions input index f at =
     input_sound f (input_well_formed bytes functions input index f at) (uids_distinct f (each_admitted functions input.admitted index f at))
     (input_natural bytes functions input index f at)
 
-parts_are_framed : (forms : List Entry) (bytes : List ℕ) (functions : List Function) (a : Assembly) → IsDescribed forms →
+parts_are_framed : (forms : List Entry) (road : Road) (bytes : List ℕ) (functions : List Function) (a : Assembly) → IsDescribed forms →
     IsInput bytes functions →
-    IsAssembly forms 0 functions a → AreSameFramed forms functions a.parts
-parts_are_framed forms bytes functions a described input assembly =
-    are_framed forms 0 functions a described (input_are_sound bytes functions input) assembly
+    IsAssembly forms road 0 functions a → AreSameFramed forms road functions a.parts
+parts_are_framed forms road bytes functions a described input assembly =
+    are_framed forms road 0 functions a described (input_are_sound bytes functions input) assembly
 
 -- the text does what the functions do
-pub input_does_same : (forms : List Entry) (bytes : List ℕ) (functions : List Function) (a : Assembly) → IsDescribed forms →
+pub input_does_same : (forms : List Entry) (road : Road) (bytes : List ℕ) (functions : List Function) (a : Assembly) → IsDescribed forms →
     IsInput bytes functions →
-    IsAssembly forms 0 functions a → DoesSame functions a.text
-input_does_same forms bytes functions a described input assembly = record {
+    IsAssembly forms road 0 functions a → DoesSame functions a.text
+input_does_same forms road bytes functions a described input assembly = record {
   items = a.parts;
-  parts = are_parts forms 0 functions a assembly;
-  same = are_same forms 0 functions a described (input_are_sound bytes functions input) assembly;
+  parts = are_parts forms road 0 functions a assembly;
+  same = are_same forms road 0 functions a described (input_are_sound bytes functions input) assembly;
 }
 
 -- and does it in each frame that has the room at least of which the passes laid out its frame
-pub input_does_framed : (forms : List Entry) (bytes : List ℕ) (functions : List Function) (a : Assembly) → IsDescribed forms →
+pub input_does_framed : (forms : List Entry) (road : Road) (bytes : List ℕ) (functions : List Function) (a : Assembly) → IsDescribed forms →
     IsInput bytes functions →
-    IsAssembly forms 0 functions a → DoesSameFramed forms functions a.text
-input_does_framed forms bytes functions a described input assembly = record {
+    IsAssembly forms road 0 functions a → DoesSameFramed forms road functions a.text
+input_does_framed forms road bytes functions a described input assembly = record {
   items = a.parts;
-  parts = are_parts forms 0 functions a assembly;
-  same = parts_are_framed forms bytes functions a described input assembly;
+  parts = are_parts forms road 0 functions a assembly;
+  same = parts_are_framed forms road bytes functions a described input assembly;
 }
 
 -- ---- the function at a place
@@ -62,12 +64,12 @@ input_does_framed forms bytes functions a described input assembly = record {
 -- what the passes make of a function, and the items that have its behaviour
 record SameMade (forms : List Entry) (f : Function) (items : List CodeItem) : Type 0 where
   pub made : Made
-  pub after : AfterComes forms f (Ok made)
+  pub after : AfterComes forms Usual f (Ok made)
   pub same : Same made.layout.size f items
 
 same_at : (forms : List Entry) (place : ℕ) (functions : List Function) (parts : List (List CodeItem)) (f : Function)
     (items : List CodeItem) →
-    slice_get functions place ≡ Some f → slice_get parts place ≡ Some items → AreSameFramed forms functions parts → SameMade forms f items
+    slice_get functions place ≡ Some f → slice_get parts place ≡ Some items → AreSameFramed forms Usual functions parts → SameMade forms f items
 same_at forms place _ _ f items at at' AreSameFramed.none = absurd (let none : ⊥ = cc in none)
 same_at forms zero _ _ f items at at' (AreSameFramed.function g m functions own others after same more) =
     let f_is : g ≡ f = cc in
@@ -80,11 +82,11 @@ same_at forms (suc place) _ _ f items at at' (AreSameFramed.function g m functio
 -- The code of a function of an input with a name has the behaviour of the function, in each frame that has the room at least of which the
 -- passes laid out its frame; this room is no larger than a frame may be, and holds the locals.
 pub coded_is_same : (forms : List Entry) (bytes name : List ℕ) (c : Coded) → IsDescribed forms → IsCoded forms bytes name c →
-    (m : Made) × AfterComes forms c.function (Ok m) × (m.layout.size ≤ 1048560) × (c.function.locals ≤ m.layout.size) ×
+    (m : Made) × AfterComes forms Usual c.function (Ok m) × (m.layout.size ≤ 1048560) × (c.function.locals ≤ m.layout.size) ×
     Same m.layout.size c.function c.items
 coded_is_same forms bytes name c described coded =
     let here = same_at forms coded.place coded.functions coded.assembly.parts c.function c.items coded.coded.function coded.coded.items
-    (parts_are_framed forms bytes coded.functions coded.assembly described coded.input coded.is_assembly) in
-    let leads = after_leads forms c.function here.made described
+    (parts_are_framed forms Usual bytes coded.functions coded.assembly described coded.input coded.is_assembly) in
+    let leads = after_leads forms Usual c.function here.made described
     (input_are_sound bytes coded.functions coded.input coded.place c.function coded.coded.function) here.after in
     (here.made, here.after, leads.small, leads.holds, here.same)

@@ -21,6 +21,8 @@ use Rattle.func_input.specs.Outcome.{Outcome}
 use Rattle.func_input.specs.Input.{IsRead, IsInput, FunctionsComeTo}
 use Rattle.func_input.proofs.Inputs.{input_reached, input_last}
 use Rattle.func_input.proofs.One.{one_coming_to}
+use Rattle.pass_name.specs.declared.road.Road.{Road}
+use Rattle.pass_name.specs.declared.road.Road.TheVariants.{Usual}
 use Rattle.func_image.specs.Image.{TellsImage}
 use Rattle.func_image.proofs.One.{one_image_of, tells_image, has_image}
 use Rattle.func_image.proofs.Does.{does_in_words}
@@ -80,14 +82,14 @@ one_by comes one known name _ _ enough (ByForms.by_forms forms o p come) (ByForm
 abbrev IsOneOver : (List Entry → List ℕ → Outcome → Type 0) → Type 0
 IsOneOver comes = (forms : List Entry) (bytes : List ℕ) (a b : Outcome) → comes forms bytes a → comes forms bytes b → a ≡ b
 
-text_one : IsOneOver TextComes
-text_one forms bytes a b p q = p.2 ∙ ap text_told (one_coming_of forms bytes p.0 q.0 p.1 q.1) ∙ sym q.2
+text_one : (road : Road) → IsOneOver (λ forms bytes. TextComes forms road bytes)
+text_one road forms bytes a b p q = p.2 ∙ ap text_told (one_coming_of forms road bytes p.0 q.0 p.1 q.1) ∙ sym q.2
 
 trial_one : (function : List ℕ) (steps : ℕ) (args : List ℕ) → IsOneOver (EvalComes function steps args)
 trial_one function steps args forms bytes a b p q = p.2 ∙ ap (evaluated steps args) (one_code forms bytes function p.0 q.0 p.1 q.1) ∙ sym q.2
 
 told_one : (t : Told) → IsOneOver (ToldComes t)
-told_one telling.Lines forms bytes a b p q = text_one forms bytes a b p q
+told_one (telling.Lines road) forms bytes a b p q = text_one road forms bytes a b p q
 told_one telling.Forms forms bytes a b p q = one_coming_to (FormsTold forms) bytes a b (functions_one forms) p q
 told_one telling.Words forms bytes a b p q = one_image_of forms bytes a b p q
 told_one (telling.Behind pass) forms bytes a b p q = one_coming_to (dump.FunctionsCome forms pass) bytes a b (dump_one.functions_one forms pass) p q
@@ -101,7 +103,7 @@ pub one_telling : (t : Told) (known : Source) (left : Option (List ℕ)) (name :
 one_telling t known left name a b enough p q = one_by (OverInput t left) (told_left t left enough.1) known name a b enough.0 p q
 
 summary_one : (number : ℕ) → IsOne (SummaryComes number)
-summary_one number forms a b p q = p.2 ∙ ap summary_told (one_coming forms (made number ∷ []) p.0 q.0 p.1 q.1) ∙ sym q.2
+summary_one number forms a b p q = p.2 ∙ ap summary_told (one_coming forms Usual (made number ∷ []) p.0 q.0 p.1 q.1) ∙ sym q.2
 
 pub one_summary : (number : ℕ) (known : Source) (name : List ℕ) (a b : Outcome) → IsKnown known name → ByForms (SummaryComes number) known name a → ByForms (SummaryComes number) known name b → a ≡ b
 one_summary number known name a b enough p q = one_by (SummaryComes number) (summary_one number) known name a b enough p q
@@ -135,11 +137,11 @@ told_list (Ok other) text is = let same : other ≡ text = cc in ap (λ (t : Lis
 told_list (Err e) text is = cc
 
 -- the input has functions, and the text is that of their assembly
-lines_told : (forms : List Entry) (bytes text : List ℕ) → TextComes forms bytes (Ok text) → Tells telling.Lines forms bytes text
-lines_told forms bytes text own =
+lines_told : (forms : List Entry) (road : Road) (bytes text : List ℕ) → TextComes forms road bytes (Ok text) → Tells (telling.Lines road) forms bytes text
+lines_told forms road bytes text own =
     let told = told_text own.0 text own.2 in
-    let r = input_reached (AssemblyComes forms) bytes told.0 own.0 told.1 own.1 in
-    (r.functions, r.input, told.0, is_assembly forms r.functions told.0 (subst (AssemblyComes forms r.functions) told.1 r.own), sym told.2)
+    let r = input_reached (AssemblyComes forms road) bytes told.0 own.0 told.1 own.1 in
+    (r.functions, r.input, told.0, is_assembly forms road r.functions told.0 (subst (AssemblyComes forms road r.functions) told.1 r.own), sym told.2)
 
 -- the forms that a description comes to are those of its constants and its instances
 described_is : (known : Source) (name : List ℕ) (given : Given) (forms : List Entry) → given ≡ Ok forms → FormsCome known name given →
@@ -178,7 +180,7 @@ told_outcomes bytes function steps args text forms (Err e) described comes is fa
 
 -- what a text that was told says
 tells : (t : Told) (forms : List Entry) (bytes text : List ℕ) → IsDescribed forms → ToldComes t forms bytes (Ok text) → Tells t forms bytes text
-tells telling.Lines forms bytes text described own = lines_told forms bytes text own
+tells (telling.Lines road) forms bytes text described own = lines_told forms road bytes text own
 tells telling.Forms forms bytes text described own = let r = input_reached (FormsTold forms) bytes text (Ok text) refl own in (r.functions, r.input, r.own)
 tells telling.Words forms bytes text described own = tells_image forms bytes text own
 tells (telling.Behind pass) forms bytes text described own = let r = input_reached (dump.FunctionsCome forms pass) bytes text (Ok text) refl own in (r.functions, r.input, r.own)
@@ -190,15 +192,15 @@ summary_text (Ok a) text is = (a, refl, (let same : text ≡ summary_line a.summ
 summary_text (Err e) text is = absurd (let no : ⊥ = cc in no)
 
 -- functions that come to an assembly have it
-admitted_come : (forms : List Entry) (functions : List Function) (o : assembly.Outcome) (a : Assembly) → o ≡ Ok a → FunctionsCome forms functions o → AssemblyComes forms functions (Ok a)
+admitted_come : (forms : List Entry) (functions : List Function) (o : assembly.Outcome) (a : Assembly) → o ≡ Ok a → FunctionsCome forms Usual functions o → AssemblyComes forms Usual functions (Ok a)
 admitted_come forms functions _ a is (FunctionsComeTo.refused e first) = absurd (let no : ⊥ = cc in no)
-admitted_come forms functions _ a is (FunctionsComeTo.admitted o none own) = subst (AssemblyComes forms functions) is own
+admitted_come forms functions _ a is (FunctionsComeTo.admitted o none own) = subst (AssemblyComes forms Usual functions) is own
 
 -- it is that of the assembly of the generated function
 tells_summary : (number : ℕ) (forms : List Entry) (text : List ℕ) → SummaryComes number forms (Ok text) → TellsSummary forms number text
 tells_summary number forms text own =
     let told = summary_text own.0 text own.2 in
-    (told.0, is_assembly forms (made number ∷ []) told.0 (admitted_come forms (made number ∷ []) own.0 told.0 told.1 own.1), told.2)
+    (told.0, is_assembly forms Usual (made number ∷ []) told.0 (admitted_come forms (made number ∷ []) own.0 told.0 told.1 own.1), told.2)
 
 -- what the answer to a command says, where it is a text
 pub means : (known : Source) (left : Option (List ℕ)) (c : Command) (text : List ℕ) → CommandComes known left c (Ok text) → Means known left c text
@@ -215,20 +217,20 @@ means known left (commands.Made name number) text comes =
 is_read : (bytes : List ℕ) (functions : List Function) → IsInput bytes functions → IsRead bytes functions
 is_read bytes functions input = record { within = input.within; trees = input.trees; reads = input.reads; stand = input.stand }
 
-pub writes_same : (known : Source) (left old new : Option (List ℕ)) (name : Option (List ℕ)) (text : List ℕ) → Means known left (commands.Over name telling.Lines) text → Appends old new text → WritesSame left old new
-writes_same known None old new name text h appends = tt
-writes_same known (Some bytes) old new name text h appends =
+pub writes_same : (known : Source) (left old new : Option (List ℕ)) (name : Option (List ℕ)) (road : Road) (text : List ℕ) → Means known left (commands.Over name (telling.Lines road)) text → Appends old new text → WritesSame left old new
+writes_same known None old new name road text h appends = tt
+writes_same known (Some bytes) old new name road text h appends =
     let told = h.2 in
-    let does = input_does_same h.0 bytes told.0 told.2 (is_described known (described name) h.0 h.1) told.1 told.3 in
+    let does = input_does_same h.0 road bytes told.0 told.2 (is_described known (described name) h.0 h.1) told.1 told.3 in
     (told.0, is_read bytes told.0 told.1, text, subst (DoesSame told.0) (sym told.4) does, appends)
 
-pub writes_framed : (known : Source) (left old new : Option (List ℕ)) (name : Option (List ℕ)) (text : List ℕ) → Means known left (commands.Over name telling.Lines) text → Appends old new text →
-    WritesSameFramed known (described name) left old new
-writes_framed known None old new name text h appends = tt
-writes_framed known (Some bytes) old new name text h appends =
+pub writes_framed : (known : Source) (left old new : Option (List ℕ)) (name : Option (List ℕ)) (road : Road) (text : List ℕ) → Means known left (commands.Over name (telling.Lines road)) text → Appends old new text →
+    WritesSameFramed known road (described name) left old new
+writes_framed known None old new name road text h appends = tt
+writes_framed known (Some bytes) old new name road text h appends =
     let told = h.2 in
-    let does = input_does_framed h.0 bytes told.0 told.2 (is_described known (described name) h.0 h.1) told.1 told.3 in
-    (h.0, h.1, told.0, told.1, text, subst (DoesSameFramed h.0 told.0) (sym told.4) does, appends)
+    let does = input_does_framed h.0 road bytes told.0 told.2 (is_described known (described name) h.0 h.1) told.1 told.3 in
+    (h.0, h.1, told.0, told.1, text, subst (DoesSameFramed h.0 road told.0) (sym told.4) does, appends)
 
 -- ---- what the text of an image does
 
@@ -241,8 +243,8 @@ writes_words known (Some bytes) old new name text h appends =
 -- ---- which functions have a text
 
 told_has : (t : Told) (forms : List Entry) (bytes : List ℕ) (functions : List Function) (o : Outcome) → IsInput bytes functions → HaveText t forms functions → ToldComes t forms bytes o → (text : List ℕ) × (o ≡ Ok text)
-told_has telling.Lines forms bytes functions o input have own =
-    let whole = one_assembly forms functions own.0 (Ok have.0) (input_last (AssemblyComes forms) bytes functions own.0 input own.1) have.1 in
+told_has (telling.Lines road) forms bytes functions o input have own =
+    let whole = one_assembly forms road functions own.0 (Ok have.0) (input_last (AssemblyComes forms road) bytes functions own.0 input own.1) have.1 in
     (have.0.text, own.2 ∙ ap text_told whole)
 told_has telling.Forms forms bytes functions o input have own = (have.0, functions_one forms functions o (Ok have.0) (input_last (FormsTold forms) bytes functions o input own) have.1)
 told_has telling.Words forms bytes functions o input have own = has_image forms bytes functions o input have own
@@ -260,4 +262,4 @@ ends known left (commands.Over name t) o has comes =
 ends known left (commands.Listed name) o has comes = (has.1, comes.2 ∙ ap list_told (one_list known (described name) comes.0 (Ok has.1) has.0 comes.1 has.2))
 ends known left (commands.Made name number) o has comes =
     let own = by_known (SummaryComes number) known (described name) has.1 o has.0 has.2 comes in
-    (summary_line has.3.0.summary, own.2 ∙ ap summary_told (one_coming has.1 (made number ∷ []) own.0 (Ok has.3.0) own.1 has.3.1))
+    (summary_line has.3.0.summary, own.2 ∙ ap summary_told (one_coming has.1 Usual (made number ∷ []) own.0 (Ok has.3.0) own.1 has.3.1))

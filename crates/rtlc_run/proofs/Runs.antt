@@ -4,6 +4,7 @@ use Rattle.std.proofs.lemmas.Bool.{eqb-true}
 use Rattle.md_source.specs.Source.{Source}
 use Rattle.md_list.proofs.Lists.{one_list}
 use Rattle.func_input.specs.Outcome.{Outcome}
+use Rattle.pass_name.specs.declared.road.Road.{Road}
 use Rattle.rtlc_words.specs.declared.command.Told.TheVariants as telling
 use Rattle.rtlc_words.specs.declared.command.Command.{Command}
 use Rattle.rtlc_words.specs.declared.command.Command.TheVariants as commands
@@ -46,14 +47,14 @@ one_answer words known input _ _ enough (Answers.spoken c o is comes) (Answers.s
 pub writes_text : (words : List (List ℕ)) (known : Source) (input old new : Option (List ℕ)) (c : Command) → command_of words ≡ Some c → Writes words known input old new → WritesText known c input old new
 writes_text words known input old new c is h = (h.0, means known input c h.0 (comes_to words known input c (Ok h.0) is h.1), h.2)
 
-pub writes_same : (words : List (List ℕ)) (known : Source) (input old new : Option (List ℕ)) (name : Option (List ℕ)) → command_of words ≡ Some (commands.Over name telling.Lines) → Writes words known input old new → WritesSame input old new
-writes_same words known input old new name is h =
-    let text = writes_text words known input old new (commands.Over name telling.Lines) is h in described_by.writes_same known input old new name text.0 text.1 text.2
+pub writes_same : (words : List (List ℕ)) (known : Source) (input old new : Option (List ℕ)) (name : Option (List ℕ)) (road : Road) → command_of words ≡ Some (commands.Over name (telling.Lines road)) → Writes words known input old new → WritesSame input old new
+writes_same words known input old new name road is h =
+    let text = writes_text words known input old new (commands.Over name (telling.Lines road)) is h in described_by.writes_same known input old new name road text.0 text.1 text.2
 
-pub writes_framed : (words : List (List ℕ)) (known : Source) (input old new : Option (List ℕ)) (name : Option (List ℕ)) → command_of words ≡ Some (commands.Over name telling.Lines) → Writes words known input old new →
-    WritesSameFramed known (described name) input old new
-writes_framed words known input old new name is h =
-    let text = writes_text words known input old new (commands.Over name telling.Lines) is h in described_by.writes_framed known input old new name text.0 text.1 text.2
+pub writes_framed : (words : List (List ℕ)) (known : Source) (input old new : Option (List ℕ)) (name : Option (List ℕ)) (road : Road) → command_of words ≡ Some (commands.Over name (telling.Lines road)) → Writes words known input old new →
+    WritesSameFramed known road (described name) input old new
+writes_framed words known input old new name road is h =
+    let text = writes_text words known input old new (commands.Over name (telling.Lines road)) is h in described_by.writes_framed known input old new name road text.0 text.1 text.2
 
 pub writes_words : (words : List (List ℕ)) (known : Source) (input old new : Option (List ℕ)) (name : Option (List ℕ)) → command_of words ≡ Some (commands.Over name telling.Words) → Writes words known input old new → WritesWords input old new
 writes_words words known input old new name is h =

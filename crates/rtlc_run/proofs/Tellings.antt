@@ -14,6 +14,8 @@ use Rattle.md_named.specs.Named.{FormsCome}
 use Rattle.md_named.specs.Answers.{RefusesForms}
 use Rattle.func_input.specs.Input.{InputComesTo, RefusesWith}
 use Rattle.func_input.specs.Outcome.{Outcome}
+use Rattle.pass_name.specs.declared.road.Road.{Road}
+use Rattle.pass_name.specs.declared.road.Road.TheVariants.{Usual}
 use Rattle.func_image.specs.func_text.Assembly as assembly
 use Rattle.func_image.specs.func_text.Compile.{FunctionsCome, InputComes, TextComes}
 use Rattle.func_image.specs.func_text.Code.{CodeComes, Gives as GivesCode}
@@ -51,7 +53,7 @@ forms_are_own known name _ h = (λ is. cc, λ is. cc)
 
 -- bytes that are too many are no functions
 too_many : (t : Told) (forms : List Entry) (bytes : List ℕ) → most_bytes < length bytes → ToldComes t forms bytes (Err (refusal.Limit limit.Text (most_bytes + 1)))
-too_many telling.Lines forms bytes long = (Err (refusal.Limit limit.Text (most_bytes + 1)), InputComesTo.too_long long, refl)
+too_many (telling.Lines road) forms bytes long = (Err (refusal.Limit limit.Text (most_bytes + 1)), InputComesTo.too_long long, refl)
 too_many telling.Forms forms bytes long = InputComesTo.too_long long
 too_many telling.Words forms bytes long = InputComesTo.too_long long
 too_many (telling.Behind pass) forms bytes long = InputComesTo.too_long long
@@ -103,11 +105,11 @@ assembly_refused P Q follows (refusal.Unsatisfied function uid form insn) h = fo
 assembly_refused P Q follows (refusal.NotEquated function uid rule item left right) h = follows (refusal.NotEquated function uid rule item left right) h
 
 -- its text, and its summary
-pub text_refused : (forms : List Entry) (bytes : List ℕ) (e : Refusal) → RefusesWith e (InputComes forms bytes) → Gives (Err e) (TextComes forms bytes)
-text_refused forms bytes e h = assembly_refused (InputComes forms bytes) (TextComes forms bytes) (λ e comes. (Err e, comes, refl)) e h
+pub text_refused : (forms : List Entry) (road : Road) (bytes : List ℕ) (e : Refusal) → RefusesWith e (InputComes forms road bytes) → Gives (Err e) (TextComes forms road bytes)
+text_refused forms road bytes e h = assembly_refused (InputComes forms road bytes) (TextComes forms road bytes) (λ e comes. (Err e, comes, refl)) e h
 
-pub summary_refused : (number : ℕ) (forms : List Entry) (e : Refusal) → RefusesWith e (FunctionsCome forms (made number ∷ [])) → Gives (Err e) (SummaryComes number forms)
-summary_refused number forms e h = assembly_refused (FunctionsCome forms (made number ∷ [])) (SummaryComes number forms) (λ e comes. (Err e, comes, refl)) e h
+pub summary_refused : (number : ℕ) (forms : List Entry) (e : Refusal) → RefusesWith e (FunctionsCome forms Usual (made number ∷ [])) → Gives (Err e) (SummaryComes number forms)
+summary_refused number forms e h = assembly_refused (FunctionsCome forms Usual (made number ∷ [])) (SummaryComes number forms) (λ e comes. (Err e, comes, refl)) e h
 
 -- such a refusal is no fault, and none of the words
 pub refusal_is_own : (P : assembly.Outcome → Type 0) (e : Refusal) → RefusesWith e P → IsOwn (Err e)

@@ -5,6 +5,7 @@ use Rattle.std.specs.Fmt.{decimal}
 use Rattle.rtl_make.specs.Made.{made}
 use Rattle.md_forms.specs.declared.form.Entry.{Entry}
 use Rattle.func_input.specs.Outcome.{Outcome}
+use Rattle.pass_name.specs.declared.road.Road.TheVariants.{Usual}
 use Rattle.func_image.specs.func_text.declared.assembly.Assembly.{Assembly}
 use Rattle.func_image.specs.func_text.declared.summary.Summary.{Summary}
 use Rattle.func_image.specs.func_text.Assembly as assembly
@@ -32,12 +33,12 @@ summary_told (Err e) = Err e
 
 -- its summary, or what refuses it
 abbrev pub SummaryComes : ℕ → List Entry → Outcome → Type 0
-SummaryComes number forms outcome = (o : assembly.Outcome) × FunctionsCome forms (made number ∷ []) o × (outcome ≡ summary_told o)
+SummaryComes number forms outcome = (o : assembly.Outcome) × FunctionsCome forms Usual (made number ∷ []) o × (outcome ≡ summary_told o)
 
 -- a text is the summary of its assembly
 abbrev pub TellsSummary : List Entry → ℕ → List ℕ → Type 0
-TellsSummary forms number text = (a : Assembly) × IsAssembly forms 0 (made number ∷ []) a × (text ≡ summary_line a.summary)
+TellsSummary forms number text = (a : Assembly) × IsAssembly forms Usual 0 (made number ∷ []) a × (text ≡ summary_line a.summary)
 
 -- it has an assembly
 abbrev pub HasSummary : List Entry → ℕ → Type 0
-HasSummary forms number = (a : Assembly) × FunctionsCome forms (made number ∷ []) (Ok a)
+HasSummary forms number = (a : Assembly) × FunctionsCome forms Usual (made number ∷ []) (Ok a)

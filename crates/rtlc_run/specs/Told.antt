@@ -16,11 +16,17 @@ use Rattle.func_image.specs.func_text.Dump as dump
 use Rattle.func_image.specs.func_text.Code.{CodeComes, IsCoded, has_named}
 use Rattle.func_image.specs.func_text.declared.code.Coded.{Coded}
 use Rattle.code_eval.specs.Eval.{eval_text, IsFair, ComesToSame}
+use Rattle.pass_name.specs.declared.road.Road.{Road}
+use Rattle.pass_name.specs.declared.road.Road.TheVariants.{Usual}
 use Rattle.pass_name.specs.declared.pass.Pass.{Pass}
 use Rattle.rtlc_words.specs.declared.command.Told.{Told}
 use Rattle.rtlc_words.specs.declared.command.Told.TheVariants as telling
 
 -- ---- what it comes to over the bytes of an input: a text, or the first refusal
+
+-- the assembly, by a road
+abbrev pub LinesCome : Road → List Entry → List ℕ → Outcome → Type 0
+LinesCome road forms bytes outcome = TextComes forms road bytes outcome
 
 -- the forms of the instructions
 abbrev pub RecogComes : List Entry → List ℕ → Outcome → Type 0
@@ -42,7 +48,7 @@ EvalComes function steps args forms bytes outcome =
     IfOk answer (λ c. IsFair c.function steps args)
 
 abbrev pub ToldComes : Told → List Entry → List ℕ → Outcome → Type 0
-ToldComes telling.Lines = TextComes
+ToldComes (telling.Lines road) = LinesCome road
 ToldComes telling.Forms = RecogComes
 ToldComes telling.Words = ImageComes
 ToldComes (telling.Behind pass) = DumpComes pass
@@ -56,14 +62,14 @@ pub record IsTried (c : Coded) (steps : ℕ) (args : List ℕ) : Type 0 where
   pub fair : IsFair c.function steps args
   pub same : ComesToSame c.function c.items steps args
 
--- The text is that of the assembly of the input's functions; it has the form and the alternative of
--- each instruction; the words of the image of the assembly's lines; each function as it is behind
--- the pass; or the outcomes of the function with the name, and of the lines and labels that its
--- part of the assembly spells.
+-- The text is that of the assembly of the input's functions by the road; it has the form and the
+-- alternative of each instruction; the words of the image of the assembly's lines; each function as
+-- it is behind the pass; or the outcomes of the function with the name, and of the lines and labels
+-- that its part of the assembly spells.
 abbrev pub Tells : Told → List Entry → List ℕ → List ℕ → Type 0
-Tells telling.Lines forms bytes text =
+Tells (telling.Lines road) forms bytes text =
     (functions : List Function) × IsInput bytes functions × (a : Assembly) ×
-    IsAssembly forms 0 functions a × (text ≡ a.text)
+    IsAssembly forms road 0 functions a × (text ≡ a.text)
 Tells telling.Forms forms bytes text =
     (functions : List Function) × IsInput bytes functions × FunctionsCome forms functions (Ok text)
 Tells telling.Words forms bytes text = TellsImage forms bytes text
@@ -78,10 +84,11 @@ Tells (telling.Outcomes function steps args) forms bytes text =
 -- They have an assembly; each instruction has a form; they have an assembly, and its lines an image;
 -- each comes through the pass; or they have an assembly, and the name is that of one.
 abbrev pub HaveText : Told → List Entry → List Function → Type 0
-HaveText telling.Lines forms functions = (a : Assembly) × AssemblyComes forms functions (Ok a)
+HaveText (telling.Lines road) forms functions =
+    (a : Assembly) × AssemblyComes forms road functions (Ok a)
 HaveText telling.Forms forms functions = (text : List ℕ) × FunctionsCome forms functions (Ok text)
 HaveText telling.Words forms functions = HaveImage forms functions
 HaveText (telling.Behind pass) forms functions =
     (text : List ℕ) × dump.FunctionsCome forms pass functions (Ok text)
 HaveText (telling.Outcomes function steps args) forms functions =
-    (a : Assembly) × AssemblyComes forms functions (Ok a) × (has_named functions function ≡ true)
+    (a : Assembly) × AssemblyComes forms Usual functions (Ok a) × (has_named functions function ≡ true)

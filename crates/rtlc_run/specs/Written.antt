@@ -9,6 +9,7 @@ use Rattle.md_forms.specs.declared.form.Entry.{Entry}
 use Rattle.md_list.specs.Listing.{ListComes}
 use Rattle.md_named.specs.Named.{FormsCome}
 use Rattle.func_input.specs.Input.{IsRead, IsInput}
+use Rattle.pass_name.specs.declared.road.Road.{Road}
 use Rattle.func_image.specs.DoWords.{DoesInWords}
 use Rattle.func_image.specs.func_text.Same.{DoesSame, DoesSameFramed}
 use Rattle.rtlc_words.specs.declared.command.Command.{Command}
@@ -27,12 +28,12 @@ WritesSame input old new =
 
 -- it does so in each frame that has the room at least of the one that a function has by the
 -- description
-abbrev pub WritesSameFramed : Source → List ℕ → Option (List ℕ) → Option (List ℕ) →
+abbrev pub WritesSameFramed : Source → Road → List ℕ → Option (List ℕ) → Option (List ℕ) →
     Option (List ℕ) → Type 0
-WritesSameFramed files name input old new =
+WritesSameFramed files road name input old new =
     IfSome input (λ bytes. (forms : List Entry) × FormsCome files name (Ok forms) ×
     (functions : List Function) × IsInput bytes functions ×
-    (text : List ℕ) × DoesSameFramed forms functions text × Appends old new text)
+    (text : List ℕ) × DoesSameFramed forms road functions text × Appends old new text)
 
 -- ---- what the text of an image does
 

@@ -11,6 +11,7 @@ ghost use Rattle.run_refusal.specs.declared.refusal.Refusal.TheVariants as refus
 ghost use Rattle.rtx_tree.specs.Limit.{most_bytes};
 ghost use Rattle.func_input.specs.Input.{IsRead};
 ghost use Rattle.func_input.specs.Outcome.{Outcome};
+ghost use Rattle.pass_name.specs.declared.road.Road.{Road};
 ghost use Rattle.func_image.specs.Image.{ImageComes};
 ghost use Rattle.func_image.specs.func_text.Same.{AreParts};
 ghost use Rattle.func_image.specs.func_text.Compile.{TextComes};
@@ -42,7 +43,7 @@ use md_desc::Description;
 use md_list::{ListRefusal, list};
 use md_named::{description_of, source_refused};
 use md_source::SHIPPED;
-use pass_name::Pass;
+use pass_name::{Pass, Road};
 use rtlc_words::{Command, Told, command_of};
 use rtx_tree::{Limit, MOST_BYTES, MOST_FORMS, Name};
 use run_refusal::{MEMORY_LINE, Refusal, fixed_line, status};
@@ -70,14 +71,19 @@ fn input_bytes<S: Source>(alloc: Global, input: &mut S) -> Result<Vec<u8>, Refus
     }
 }
 
-/// The text of the assembly of the functions among bytes.
-fn assembled(alloc: Global, description: &Description, bytes: &[u8]) -> Result<Vec<u8>, Refusal>
+/// The text of the assembly of the functions among bytes, by a road.
+fn assembled(
+    alloc: Global,
+    description: &Description,
+    road: Road,
+    bytes: &[u8],
+) -> Result<Vec<u8>, Refusal>
     requires { length bytes.now ≤ most_bytes }
-    ensures gives { Gives result (TextComes description.now bytes.now) }
+    ensures gives { Gives result (TextComes description.now road bytes.now) }
     ensures own { IsOwn result }
     ensures read { result ≢ Err Refusal.ReadFault }
 {
-    let assembly = assembly_of(alloc, description, bytes)?;
+    let assembly = assembly_of(alloc, description, road, bytes)?;
     Ok(assembly.text.into_vec())
 }
 
@@ -149,7 +155,7 @@ fn made(
     ensures read { result ≢ Err Refusal.ReadFault }
 {
     match told {
-        Told::Lines => assembled(alloc, description, bytes),
+        Told::Lines { road } => assembled(alloc, description, *road, bytes),
         Told::Forms => recognised(alloc, description, bytes),
         Told::Words => imaged(alloc, description, bytes),
         Told::Behind { pass } => dumped(alloc, description, *pass, bytes),
@@ -461,9 +467,9 @@ fn report<E: Sink>(alloc: Global, errors: &mut E, refusal: Refusal) -> u8
     }
 }
 
-/// The whole program. `words` are those after the program's name: `asm`, `list`, `recog`, `dump
-/// PASS`, `eval NAME STEPS` with up to eight numbers, `make N`, or `image`, and `--md NAME` at most
-/// once.
+/// The whole program. `words` are those after the program's name: `asm`, `reuse`, `list`, `recog`,
+/// `dump PASS`, `eval NAME STEPS` with up to eight numbers, `make N`, or `image`, and `--md NAME` at
+/// most once.
 /// `files` are asked for a description that is named and for what it includes, `input` is read by
 /// all but `list` and `make`. The text is written to `output`, the line of a refusal to `errors`,
 /// and the exit status is given: 0, or that of the [`Refusal`].
@@ -507,18 +513,20 @@ pub fn run<F: Files, S: Source, K: Sink, E: Sink>(
         (S.fault_count input.new) (K.fault_count output.old) (K.fault_count output.new) →
         HasText known (S.left input.old) c → IsDone result }
 
-    // What the text of `asm` does: the lines that it spells for each function do what the function
-    // does, whatever the description, where there is room for a frame of some size, which is at most
-    // 1,048,560; so they do where there is room for the frame that the function has by the
-    // description.
-    ensures behaves { (name : Option (List ℕ)) →
-        spoken.command_of (words_of words.now) ≡ Some (commands.Over name telling.Lines) →
+    // What the text of `asm` does, and that of `reuse`: on each road, the lines that it spells for
+    // each function do what the function does, whatever the description, where there is room for a
+    // frame of some size, which is at most 1,048,560; so they do where there is room for the frame
+    // that the function has by the description on this road.
+    ensures behaves { (name : Option (List ℕ)) (road : Road) →
+        spoken.command_of (words_of words.now) ≡
+        Some (commands.Over name (telling.Lines road)) →
         result ≡ 0 → WritesSame (S.left input.old) (K.taken output.old) (K.taken output.new) }
     ensures framed { (known : Known) → Agrees known (F.holds files.old) →
-        (name : Option (List ℕ)) →
-        spoken.command_of (words_of words.now) ≡ Some (commands.Over name telling.Lines) →
+        (name : Option (List ℕ)) (road : Road) →
+        spoken.command_of (words_of words.now) ≡
+        Some (commands.Over name (telling.Lines road)) →
         result ≡ 0 →
-        WritesSameFramed known (spec.described name) (S.left input.old) (K.taken output.old)
+        WritesSameFramed known road (spec.described name) (S.left input.old) (K.taken output.old)
         (K.taken output.new) }
 
     // What the text of `image` does: it is that of an image, and at the entry of each function there

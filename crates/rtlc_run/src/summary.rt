@@ -6,6 +6,7 @@ ghost use Rattle.rtlc_run.specs.machine.Steps.{Gives, IsOwn};
 
 use func_image::{Summary, compile};
 use md_desc::Description;
+use pass_name::Road;
 use plain_data::Memory;
 use rtl_make::made;
 use run_refusal::Refusal;
@@ -53,6 +54,6 @@ pub(crate) fn summary_of(
     ensures read { result ≢ Err Refusal.ReadFault }
 {
     let function = made(alloc, u32::from(number))?;
-    let assembly = compile(alloc, description, slice::from_ref(&function))?;
+    let assembly = compile(alloc, description, Road::Usual, slice::from_ref(&function))?;
     Ok(summary_text(alloc, &assembly.summary)?)
 }

@@ -1,17 +1,18 @@
 -- What the contracts of `clap` give where it is called.
-use Rattle.std.proofs.Common.{◌≡◌, ◌∙◌, ◌≢◌, Option, Some, None, List, [], ◌∷◌, inl, inr, map, option_map, refl, ap, ap₂, true}
+use Rattle.std.proofs.Common.{◌≡◌, ◌∙◌, ◌≢◌, ◌&&◌, Bool, true, false, Option, Some, None, List, [], ◌∷◌, inl, inr, map, option_map, refl, sym, ap, ap₂}
 use Rattle.std.specs.Prelude.{Box, IsSomeAnd, unwrap_or}
 use Rattle.std.specs.Borrow.{Bor}
 use Rattle.std.specs.Box.{box_value}
 use Rattle.clap.specs.Matches.{found_of}
 use Rattle.clap.specs.Walk.{Row, Text, rows_of}
-use Rattle.clap.specs.Simple.{App, subcommand_of, subcommand_rows}
+use Rattle.clap.specs.Simple.{App, HasMatchesOf, built, is_simple, subcommand_of, subcommand_rows, subcommand_rows_of}
 use Rattle.clap.specs.Kinds.{HasKind, Kinds}
-use Rattle.clap.specs.Faults.{fault_of, is_simple_and_free}
+use Rattle.clap.specs.Faults.{fault_of, is_free_app, is_simple_and_free}
 use Rattle.clap.specs.Values.{kind_of}
 use Rattle.clap.specs.declared.builder.range.ValueRange.{ValueRange}
 use Rattle.clap.specs.declared.error.Error.{Error}
 use Rattle.clap.specs.declared.error.kind.ErrorKind.TheVariants.{OutOfMemory}
+use Rattle.clap.specs.declared.parser.matches.ArgMatches.{ArgMatches}
 use Rattle.clap.specs.declared.parser.matches.ArgMatches.TheViews.{out-SubCommand}
 use Rattle.clap.specs.declared.parser.matches.SubCommand.{SubCommand}
 use Rattle.rtlc_words.specs.Words.{words_of}
@@ -35,6 +36,22 @@ pub words_refused : (app : App) (texts words : List Text) (e : Error) → app �
 words_refused app texts words e is same kinds other =
     fails (fault_of app texts) e (subcommand_of program words) (kinds (ap is_simple_and_free is ∙ program_is_simple)) other
     ∙ ap₂ (λ (a : App) (ws : List Text). where_none (fault_of a ws) (subcommand_of program words)) is same
+
+first_true : (a b : Bool) → a && b ≡ true → a ≡ true
+first_true true b both = refl
+first_true false b both = cc
+
+-- words that are no fault have the command that is found
+finds : {X : Type 0} (a : Kinds) (found : Option X) → a ≡ [] → found ≡ where_none a found
+finds a found none = ap (λ ks. where_none ks found) (sym none)
+
+pub words_found : (app : App) (texts words : List Text) (m : ArgMatches) → app ≡ program → texts ≡ words
+    → HasMatchesOf app texts m → (is_simple_and_free app ≡ true → fault_of app texts ≡ []) → subcommand_rows_of m ≡ found_in words
+words_found app texts words m is same has kinds =
+    let free = ap is_simple_and_free is ∙ program_is_simple in
+    (has (first_true (is_simple app) (is_free_app (built app)) free)).1
+    ∙ finds (fault_of app texts) (subcommand_of app texts) (kinds free)
+    ∙ ap₂ (λ (a : App) (ws : List Text). where_none (fault_of a ws) (subcommand_of a ws)) is same
 
 -- ---- the matches
 

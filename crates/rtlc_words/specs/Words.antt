@@ -7,6 +7,7 @@ use Rattle.std.specs.Str.{bytes_eq, chars}
 use Rattle.std.specs.Str.Parse.{digits_value, starts_with_minus}
 use Rattle.std.specs.Fmt.{decimal}
 use Rattle.pass_name.specs.Pass.{pass_named}
+use Rattle.pass_name.specs.declared.road.Road.TheVariants.{Usual, Reusing}
 use Rattle.rtlc_words.specs.declared.command.Told.{Told}
 use Rattle.rtlc_words.specs.declared.command.Told.TheVariants as told
 use Rattle.rtlc_words.specs.declared.command.Command.{Command}
@@ -145,13 +146,14 @@ generated description _ = None
 -- each command's name, and what it makes of a description and of positional words
 abbrev pub table : List (List ℕ × (Option (List ℕ) → List (List ℕ) → Option Command))
 table =
-    (codes "asm", over (only told.Lines))
+    (codes "asm", over (only (told.Lines Usual)))
     ∷ (codes "list", listed)
     ∷ (codes "recog", over (only told.Forms))
     ∷ (codes "dump", over behind)
     ∷ (codes "eval", over outcomes)
     ∷ (codes "make", generated)
     ∷ (codes "image", over (only told.Words))
+    ∷ (codes "reuse", over (only (told.Lines Reusing)))
     ∷ []
 
 abbrev pub command_by : List ℕ → Option (List ℕ) → List (List ℕ) → Option Command

@@ -10,7 +10,7 @@ ghost use Rattle.rtlc_words.specs.Words.{words_of};
 use crate::grammar::parsed;
 use crate::numbers::{args_in, made_in, steps_in};
 use clap::ArgMatches;
-use pass_name::Pass;
+use pass_name::{Pass, Road};
 use plain_data::Memory;
 use rtx_tree::Name;
 use std::alloc::Global;
@@ -19,7 +19,10 @@ use std::alloc::Global;
 #[derive(Drop)]
 pub enum Told {
     /// Their assembly.
-    Lines,
+    Lines {
+        /// The passes that they go through.
+        road: Road,
+    },
     /// The form that matches each instruction, and its alternative.
     Forms,
     /// The words of their image.
@@ -206,13 +209,27 @@ fn command_by(
         s.now) description.entry) (words_of words.now)) }
 {
     match name {
-        "asm" => over(alloc, description, only(Told::Lines, words)),
+        "asm" => over(
+            alloc,
+            description,
+            only(Told::Lines { road: Road::Usual }, words),
+        ),
         "list" => listed(alloc, description, words),
         "recog" => over(alloc, description, only(Told::Forms, words)),
         "dump" => over(alloc, description, behind(words)),
         "eval" => over(alloc, description, outcomes(alloc, words)?),
         "make" => generated(alloc, description, words),
         "image" => over(alloc, description, only(Told::Words, words)),
+        "reuse" => over(
+            alloc,
+            description,
+            only(
+                Told::Lines {
+                    road: Road::Reusing,
+                },
+                words,
+            ),
+        ),
         _ => Ok(None),
     }
 }

@@ -87,7 +87,7 @@ fn program<'a>(alloc: Global) -> Result<Command<'a>, AllocError>
     let program = with_two(bare(alloc), alloc, "asm", "list")?;
     let program = with_two(program, alloc, "recog", "dump")?;
     let program = with_two(program, alloc, "eval", "make")?;
-    with_command(program, alloc, "image")
+    with_two(program, alloc, "image", "reuse")
 }
 
 /// An error is the want of memory, or says that the words are refused.

@@ -6,7 +6,7 @@ use Rattle.func_after.proofs.passes.behind.Goals as goal
 
 pub returns-then-is_pass : goal.returns-then-is_pass
 returns-then-is_pass c =
-    rw (← c.all_passes-next-items.ensures)
-    (makes_last c.args.pass c.all_passes-next-items.result.now c.loop-next.next-index Read (omega arith) c.args.desc.now
-    (up_to c.args.pass c.all_passes-next-items.result.now) (as_read c.args.f.now) c.loop-next.made c.loop-next.invariant
+    rw (← c.passes-next-items.ensures)
+    (makes_last c.args.pass c.passes-next-items.result.now c.loop-next.next-index Read (omega arith) c.args.desc.now
+    (up_to c.args.pass c.passes-next-items.result.now) (as_read c.args.f.now) c.loop-next.made c.loop-next.invariant
     c.in_ok-made-2.made c.in_ok-made-2.ensures (sym c.is_pass.ensures ∙ c.if-is_pass.true))

@@ -1,4 +1,5 @@
 use Rattle.std.proofs.lemmas.Result.{err_from_is_err_and}
+use Rattle.pass_name.specs.declared.road.Road.TheVariants.{Usual}
 use Rattle.func_input.proofs.Any.{input_refused}
 use Rattle.func_text.specs.Assembly.{AssemblyComes}
 use Rattle.func_text.specs.Code.{NameComes, CodeComes}
@@ -11,7 +12,7 @@ returns-in_err-functions-clause-gives c =
     let e = c.in_err-functions.field-0.0 in
     let bytes = c.args.bytes.now in
     let forms = c.args.description.now in
-    rw (p.1, p.2) (unread_refused forms bytes c.args.name.now e c.in_err-functions.ensures.unread (input_refused (AssemblyComes forms) bytes e c.in_err-functions.ensures.reads))
+    rw (p.1, p.2) (unread_refused forms bytes c.args.name.now e c.in_err-functions.ensures.unread (input_refused (AssemblyComes forms Usual) bytes e c.in_err-functions.ensures.reads))
 
 pub returns-in_err-functions-clause-one : goal.returns-in_err-functions-clause-one
 returns-in_err-functions-clause-one c = λ forms bytes name a b p q. one_code forms bytes name a b p q

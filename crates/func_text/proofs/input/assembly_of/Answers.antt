@@ -8,13 +8,13 @@ use Rattle.func_text.proofs.input.assembly_of.Goals as goal
 pub returns-in_err-functions-clause-gives : goal.returns-in_err-functions-clause-gives
 returns-in_err-functions-clause-gives c =
     let p = err_from_is_err_and c.from_residual.result c.from_residual.ensures.1 in
-    rw (p.1, p.2) (input_refused (AssemblyComes c.args.description.now) c.args.bytes.now c.in_err-functions.field-0.0 c.in_err-functions.ensures.reads)
+    rw (p.1, p.2) (input_refused (AssemblyComes c.args.description.now c.args.road) c.args.bytes.now c.in_err-functions.field-0.0 c.in_err-functions.ensures.reads)
 
 pub returns-in_err-functions-clause-one : goal.returns-in_err-functions-clause-one
-returns-in_err-functions-clause-one c = λ forms bytes a b p q. one_coming_of forms bytes a b p q
+returns-in_err-functions-clause-one c = λ forms road bytes a b p q. one_coming_of forms road bytes a b p q
 
 pub returns-clause-gives : goal.returns-clause-gives
-returns-clause-gives c = comes_to c.args.description.now c.args.bytes.now c.in_ok-functions.functions c.compile.result c.in_ok-functions.ensures.reads (rw c.as_slice.ensures.value at c.compile.ensures.gives)
+returns-clause-gives c = comes_to c.args.description.now c.args.road c.args.bytes.now c.in_ok-functions.functions c.compile.result c.in_ok-functions.ensures.reads (rw c.as_slice.ensures.value at c.compile.ensures.gives)
 
 pub returns-clause-one : goal.returns-clause-one
-returns-clause-one c = λ forms bytes a b p q. one_coming_of forms bytes a b p q
+returns-clause-one c = λ forms road bytes a b p q. one_coming_of forms road bytes a b p q

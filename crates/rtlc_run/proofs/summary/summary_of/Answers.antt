@@ -1,5 +1,6 @@
 use Rattle.std.proofs.Common.{◌≡◌, ◌∙◌, List, [], ◌∷◌, Ok, ap, subst}
 use Rattle.std.proofs.lemmas.Result.{err_from_is_err_and}
+use Rattle.pass_name.specs.declared.road.Road.TheVariants.{Usual}
 use Rattle.rtx_tree.specs.declared.function.Function.{Function}
 use Rattle.func_input.specs.Input.{RefusesWith}
 use Rattle.func_image.specs.func_text.Compile.{FunctionsCome}
@@ -12,19 +13,19 @@ returns-in_err-assembly-clause-gives c =
     let p = err_from_is_err_and c.from_residual-in_err-assembly.result c.from_residual-in_err-assembly.ensures.1 in
     let same : c.from_ref.result.now ≡ made c.args.number ∷ [] = c.from_ref.ensures.value ∙ ap (λ (f : Function). f ∷ []) (c.in_ok-function.ensures ∙ ap made c.from.ensures) in
     rw (p.1, p.2) (summary_refused c.args.number c.args.description.now c.in_err-assembly.field-0.0 (
-    subst (λ (fs : List Function). RefusesWith c.in_err-assembly.field-0.0 (FunctionsCome c.args.description.now fs)) same c.in_err-assembly.ensures.gives))
+    subst (λ (fs : List Function). RefusesWith c.in_err-assembly.field-0.0 (FunctionsCome c.args.description.now Usual fs)) same c.in_err-assembly.ensures.gives))
 
 pub returns-in_err-assembly-clause-own : goal.returns-in_err-assembly-clause-own
 returns-in_err-assembly-clause-own c =
     let p = err_from_is_err_and c.from_residual-in_err-assembly.result c.from_residual-in_err-assembly.ensures.1 in
-    rw (p.1, p.2) (refusal_is_own (FunctionsCome c.args.description.now c.from_ref.result.now) c.in_err-assembly.field-0.0 c.in_err-assembly.ensures.gives)
+    rw (p.1, p.2) (refusal_is_own (FunctionsCome c.args.description.now Usual c.from_ref.result.now) c.in_err-assembly.field-0.0 c.in_err-assembly.ensures.gives)
 
 pub returns-in_err-assembly-clause-read : goal.returns-in_err-assembly-clause-read
 returns-in_err-assembly-clause-read c =
     let p = err_from_is_err_and c.from_residual-in_err-assembly.result c.from_residual-in_err-assembly.ensures.1 in
-    rw (p.1, p.2) (refusal_read (FunctionsCome c.args.description.now c.from_ref.result.now) c.in_err-assembly.field-0.0 c.in_err-assembly.ensures.gives)
+    rw (p.1, p.2) (refusal_read (FunctionsCome c.args.description.now Usual c.from_ref.result.now) c.in_err-assembly.field-0.0 c.in_err-assembly.ensures.gives)
 
 pub returns-clause-gives : goal.returns-clause-gives
 returns-clause-gives c =
     let same : c.from_ref.result.now ≡ made c.args.number ∷ [] = c.from_ref.ensures.value ∙ ap (λ (f : Function). f ∷ []) (c.in_ok-function.ensures ∙ ap made c.from.ensures) in
-    (Ok c.in_ok-assembly.assembly, subst (λ (fs : List Function). FunctionsCome c.args.description.now fs (Ok c.in_ok-assembly.assembly)) same c.in_ok-assembly.ensures.gives, ap (λ t. Ok t) c.in_ok-summary_text.ensures)
+    (Ok c.in_ok-assembly.assembly, subst (λ (fs : List Function). FunctionsCome c.args.description.now Usual fs (Ok c.in_ok-assembly.assembly)) same c.in_ok-assembly.ensures.gives, ap (λ t. Ok t) c.in_ok-summary_text.ensures)

@@ -10,3 +10,4 @@ pub mod WithConstant
 pub mod OneRegister
 pub mod Values
 pub mod ConstantValues
+pub mod TwoLines

@@ -12,7 +12,7 @@ use Rattle.rv_text.specs.declared.line.Line.{Line}
 use Rattle.term_tree.specs.Tree as trees
 use Rattle.term_tree.specs.Tree.{Tree}
 use Rattle.term_mean.specs.Compared.{low_bits}
-use Rattle.sym_state.specs.State.{Need, start, is_within, is_small_need, needs_at}
+use Rattle.sym_state.specs.State.{Need, Runs, start, is_within, is_small_need, needs_at}
 use Rattle.sym_insns.specs.Run as insns
 use Rattle.sym_insns.specs.Shape.{is_shaped}
 use Rattle.sym_lines.specs.Run as lines
@@ -62,13 +62,17 @@ module _ {P : Type 0} (m : Mode) (w : Width) (x : P → Written) (t u : P → Tr
   insn_state i n p s =
       insn_sets i m n (x p) w s.plain s.pattern row.wide ∙ (ap (λ v. sets (suc n) v (needs_at 0 (made (x p) w).needs)) (row.term p) ∙ ap (λ v. sets (suc n) (t p) (needs_at 0 v)) (row.needs p))
 
-  -- a line that sets the same is equated with the instruction, whatever is live behind it
-  pub row_equated : (number : ℕ) (live : List ℕ) (i : Insn) (l : Line) (n : ℕ) (p : P) → Sets i m n (x p) → LineSets number l n (u p) (asked p) → Equated (i ∷ []) (Lines number (l ∷ [])) live
-  row_equated number live i l n p s goes =
+  -- lines that set the same are equated with the instruction, whatever is live behind it
+  pub lines_equated : (number : ℕ) (live : List ℕ) (i : Insn) (ls : List Line) (n : ℕ) (p : P) → Sets i m n (x p) → lines.run number ls ≡ Runs (sets (suc n) (u p) (needs_at 0 (asked p))) →
+      Equated (i ∷ []) (Lines number ls) live
+  lines_equated number live i ls n p s runs =
       let here = insn_state i n p s in
       let comes = insn_runs i (fits_plain i s.plain s.shaped) (ap is_within here ∙ small_state (suc n) (t p) (needs_at 0 (had p)) (row.insn_small p) (row.small_needs p)) in
-      let runs = line_runs number l goes.fits (ap is_within goes.state ∙ small_state (suc n) (u p) (needs_at 0 (asked p)) (row.line_small p) (row.small_asked p)) in
-      equated i number (l ∷ []) live (insns.after 0 i start) (lines.after number 0 l start) (stays_plain i s.plain) comes runs
-      (subst (λ a. difference true live a (lines.after number 0 l start) ≡ None) (sym here)
-      (subst (λ b. difference true live (sets (suc n) (t p) (needs_at 0 (had p))) b ≡ None) (sym goes.state)
-      (set_agrees live (suc n) (t p) (u p) (needs_at 0 (had p)) (needs_at 0 (asked p)) (known w (t p) (u p) (row.insn_wide p) (row.line_wide p) (row.same p)) (row.covered p))))
+      equated i number ls live (insns.after 0 i start) (sets (suc n) (u p) (needs_at 0 (asked p))) (stays_plain i s.plain) comes runs
+      (subst (λ a. difference true live a (sets (suc n) (u p) (needs_at 0 (asked p))) ≡ None) (sym here)
+      (set_agrees live (suc n) (t p) (u p) (needs_at 0 (had p)) (needs_at 0 (asked p)) (known w (t p) (u p) (row.insn_wide p) (row.line_wide p) (row.same p)) (row.covered p)))
+
+  pub row_equated : (number : ℕ) (live : List ℕ) (i : Insn) (l : Line) (n : ℕ) (p : P) → Sets i m n (x p) → LineSets number l n (u p) (asked p) → Equated (i ∷ []) (Lines number (l ∷ [])) live
+  row_equated number live i l n p s goes =
+      lines_equated number live i (l ∷ []) n p s
+      (line_runs number l goes.fits (ap is_within goes.state ∙ small_state (suc n) (u p) (needs_at 0 (asked p)) (row.line_small p) (row.small_asked p)) ∙ ap Runs goes.state)

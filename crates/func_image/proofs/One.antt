@@ -1,8 +1,8 @@
 -- What functions come to as an image, they come to alone.
-use Rattle.std.proofs.Common.{◌≡◌, ℕ, List, Ok, Err, refl, sym, ap, subst, ◌∙◌}
+use Rattle.std.proofs.Common.{◌≡◌, ℕ, List, Ok, Err, refl, ap, subst}
 use Rattle.rtx_tree.specs.declared.function.Function.{Function}
 use Rattle.rtx_tree.specs.declared.limit.Limit.TheVariants as limit
-use Rattle.rv_image.specs.Image.{IsImage, IsTooLong}
+use Rattle.rv_image.specs.Image.{IsImage}
 use Rattle.rv_image.proofs.One.{one_image, one_size, not_both}
 use Rattle.rv_image.specs.declared.image.CodeUnit.{CodeUnit}
 use Rattle.rv_image.specs.declared.image.Image.{Image}

@@ -1,3 +1,5 @@
 pub mod Law
 pub mod Runs
 pub mod Cuts
+pub mod Unseen
+pub mod Stands

@@ -33,3 +33,29 @@ pub enum Outcome {
         kept: Kept,
     },
 }
+
+/// How a run stands after so many steps, with the number of its calls in the place of the calls.
+#[derive(Drop)]
+pub enum Standing {
+    /// A step had no value.
+    Undefined,
+    /// The run goes on.
+    Running {
+        /// How many calls were made.
+        calls: u64,
+    },
+    /// The run waits for the reply to its last call.
+    Asked {
+        /// How many calls were made, with this one.
+        calls: u64,
+    },
+    /// The function returned.
+    Returned {
+        /// The result, where there is one.
+        value: Option<u64>,
+        /// The visible memory.
+        memory: Memories,
+        /// How many calls were made.
+        calls: u64,
+    },
+}

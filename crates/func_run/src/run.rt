@@ -3,13 +3,14 @@ ghost use Rattle.std.specs.Prelude.{◌≡◌, ◌<◌, ◌^◌, IfOk, OnOk, len
 ghost use Rattle.run_memory.specs.RunMemory.{visible};
 ghost use Rattle.rtl_step.specs.Step.{result_of as result_spec};
 ghost use Rattle.func_run.specs.Run as spec;
+ghost use Rattle.func_run.specs.Standing as standing;
 ghost use Rattle.func_run.specs.Run.{AreCut, TakesEnough};
 
-use crate::outcome::{Kept, Outcome};
+use crate::outcome::{Kept, Outcome, Standing};
 use bits64::Width;
 use plain_data::{Items, Memory};
 use rtl_step::{Known, Regs, State, StepEnd, result_of, step_insn};
-use rtx_tree::{Function, Memories, Start, World};
+use rtx_tree::{Function, Memories, Ranges, Start, World};
 use run_memory::visible_part;
 use std::alloc::Global;
 
@@ -189,4 +190,54 @@ pub fn run_function(
 {
     let state = entry_of(alloc, start)?;
     run_from(alloc, f, state, world, n)
+}
+
+/// How a run stands that ended in a state in which nothing is visible, where the caller sees some
+/// ranges.
+fn stood(
+    alloc: Global,
+    f: &Function,
+    end: StepEnd,
+    state: &State,
+    ranges: &Ranges,
+) -> Result<Standing, Memory>
+    ensures { IfOk result (λ s. s ≡ standing.standing_of (spec.ended f.now end
+        (record state.now { visible = ranges.now }))) }
+{
+    match end {
+        StepEnd::Returned => Ok(Standing::Returned {
+            value: result_of(f.result, &state.regs),
+            memory: visible_part(alloc, &state.memory, ranges)?,
+            calls: state.calls.len() as u64,
+        }),
+        StepEnd::Asked => Ok(Standing::Asked {
+            calls: state.calls.len() as u64,
+        }),
+        _ => Ok(Standing::Undefined),
+    }
+}
+
+/// How `n` steps of a function from its start in a world stand, the calls counted. What called
+/// functions see is not kept: nothing is visible in the states of the run.
+pub fn standing_after(
+    alloc: Global,
+    f: &Function,
+    start: &Start,
+    world: &World,
+    n: u64,
+) -> Result<Standing, Memory>
+    requires { length f.now.insns < 2 ^ 32 }
+    ensures { IfOk result (λ s. s ≡ standing.standing_of (spec.run_of f.now start.now world.now n)) }
+{
+    let mut state = entry_of(alloc, start)?;
+    state.visible = Items::new(alloc);
+    for _i in 0..n {
+        let end = step_insn(alloc, f, &mut state, world)?;
+        if !goes_on(end) {
+            return stood(alloc, f, end, &state, &start.visible);
+        }
+    }
+    Ok(Standing::Running {
+        calls: state.calls.len() as u64,
+    })
 }

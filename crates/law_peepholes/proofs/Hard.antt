@@ -17,7 +17,6 @@ use Rattle.c_eval.specs.declared.facts.Facts.{Facts}
 use Rattle.md_iter.specs.declared.substitution.Instance.{Instance}
 use Rattle.md_match.specs.Pattern.{Ops}
 use Rattle.md_forms.specs.declared.form.Entry.{Entry}
-use Rattle.md_forms.specs.declared.form.Form.{Form}
 use Rattle.md_forms.specs.Forms.{forms_of, names_of}
 use Rattle.md_recog.specs.declared.half.Half.TheVariants as half
 use Rattle.md_recog.specs.Recog.{patterns_of}

@@ -1,3 +1,4 @@
 pub mod Labels
 pub mod Left
 pub mod Runs
+pub mod Stands

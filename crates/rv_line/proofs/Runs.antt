@@ -19,7 +19,7 @@ run_starts items start world k machine replies calls is_entry all none =
     ap (run_from world start.visible items (k - 0)) same ∙ (let less : k - 0 ≡ k = omega arith in ap (λ n. run_from world start.visible items n (S (entry start) world.replies [])) less)
 
 module _ (world : World) (ranges : List RangeAt) (items : List CodeItem) where
-  one_line : (k i : ℕ) (s : Running) (goal : CodeOutcome) → i < k → run_from world ranges items (k - i) s ≡ goal → go_on (turn world ranges items s) (run_from world ranges items (k - (i + 1))) ≡ goal
+  pub one_line : (k i : ℕ) (s : Running) (goal : CodeOutcome) → i < k → run_from world ranges items (k - i) s ≡ goal → go_on (turn world ranges items s) (run_from world ranges items (k - (i + 1))) ≡ goal
   one_line k i s goal less is =
       let left : k - i ≡ suc (k - (i + 1)) = omega arith in
       sym (ap (λ n. run_from world ranges items n s) left) ∙ is

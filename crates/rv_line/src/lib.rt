@@ -4,7 +4,8 @@
 //! A register is unset or holds a number. A line that reads an unset register, makes an access that
 //! has no value, names a symbol that has no address, jumps to a label that isn't there, returns to
 //! another address than that of the caller, or is no line of the table, is stuck. Promised:
-//! [`step_line`] and [`run_lines`] are their definitions, and the first takes no memory. A run
+//! [`step_line`] and [`run_lines`] are their definitions, and the first takes no memory;
+//! [`lines_standing`] is the second with its calls counted, and keeps no memory of any call. A run
 //! gathers the labels once, and finds each at once from then on.
 #![tactic(auto)]
 
@@ -15,7 +16,7 @@ mod run;
 mod state;
 mod step;
 
-pub use outcome::{CodeCall, CodeCalls, CodeOutcome, Saved};
-pub use run::run_lines;
+pub use outcome::{CodeCall, CodeCalls, CodeOutcome, CodeStanding, Saved};
+pub use run::{lines_standing, run_lines};
 pub use state::{LineEnd, RvState};
 pub use step::step_line;

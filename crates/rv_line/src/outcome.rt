@@ -52,3 +52,29 @@ pub enum CodeOutcome {
         kept: Saved,
     },
 }
+
+/// What a run of so many lines comes to, with the number of its calls in the place of the calls.
+#[derive(Drop)]
+pub enum CodeStanding {
+    /// A line had no meaning, or none followed.
+    Stuck,
+    /// All lines were done.
+    Running {
+        /// How many calls were made.
+        calls: u64,
+    },
+    /// A call found no reply.
+    Asked {
+        /// How many calls were made, with this one.
+        calls: u64,
+    },
+    /// The function returned.
+    Returned {
+        /// What `a0` held, where it was set.
+        value: Option<u64>,
+        /// The memory that the caller sees.
+        memory: Memories,
+        /// How many calls were made.
+        calls: u64,
+    },
+}

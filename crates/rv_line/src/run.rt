@@ -1,10 +1,11 @@
 //! The run of a list of lines and labels.
 ghost use Rattle.std.specs.Prelude.{◌≡◌, IfOk, option_map};
 ghost use Rattle.rv_line.specs.Run as spec;
-ghost use Rattle.rv_line.specs.machine.Turns.{running_view, Turns};
+ghost use Rattle.rv_line.specs.Standing as standing;
+ghost use Rattle.rv_line.specs.machine.Turns.{running_view, Turns, after_line_seen, turn_seen};
 
 use crate::label::{LabelledItems, next_line};
-use crate::outcome::{CodeCall, CodeCalls, CodeOutcome};
+use crate::outcome::{CodeCall, CodeCalls, CodeOutcome, CodeStanding};
 use crate::registers::entry_regs;
 use crate::state::{LineEnd, RvState};
 use crate::step::step_line;
@@ -125,11 +126,13 @@ impl<'a> CodeState<'a> {
         })
     }
 
-    /// Goes on from a line that was done.
+    /// Goes on from a line that was done. Called functions see the one list of ranges, the caller
+    /// the other.
     fn after_line(
         &mut self,
         alloc: Global,
         end: LineEnd,
+        seen: &Ranges,
         ranges: &Ranges,
         code: &LabelledItems<'a>,
         line: &Line,
@@ -137,7 +140,7 @@ impl<'a> CodeState<'a> {
     ) -> Result<Option<CodeOutcome>, Memory>
         ensures { IfOk result (λ ended.
             Turns ended (running_view self.new)
-            (spec.after_line end ranges.now code.now line.now rest.entry.now
+            (after_line_seen end seen.now ranges.now code.now line.now rest.entry.now
             (running_view self.old))) }
     {
         match end {
@@ -146,29 +149,30 @@ impl<'a> CodeState<'a> {
                 Ok(None)
             }
             LineEnd::Jumped => Ok(self.jump(code.behind_label(line.target.bytes()))),
-            LineEnd::Called { target } => self.call(alloc, ranges, target, rest),
+            LineEnd::Called { target } => self.call(alloc, seen, target, rest),
             LineEnd::Returned => Ok(Some(self.returned(alloc, ranges)?)),
             LineEnd::Stuck => Ok(Some(CodeOutcome::Stuck)),
         }
     }
 
-    /// Does the next line.
+    /// Does the next line. Called functions see the one list of ranges, the caller the other.
     fn turn(
         &mut self,
         alloc: Global,
         world: &World,
+        seen: &Ranges,
         ranges: &Ranges,
         code: &LabelledItems<'a>,
     ) -> Result<Option<CodeOutcome>, Memory>
         ensures { IfOk result (λ ended.
-            Turns ended (running_view self.new) (spec.turn world.now ranges.now code.now
+            Turns ended (running_view self.new) (turn_seen world.now seen.now ranges.now code.now
             (running_view self.old))) }
     {
         let Some((line, rest)) = next_line(self.rest) else {
             return Ok(Some(CodeOutcome::Stuck));
         };
         let end = step_line(line, &mut self.machine, world);
-        self.after_line(alloc, end, ranges, code, line, rest)
+        self.after_line(alloc, end, seen, ranges, code, line, rest)
     }
 }
 
@@ -191,9 +195,63 @@ pub fn run_lines(
         calls: Items::new(alloc),
     };
     for _ in 0..k {
-        if let Some(outcome) = state.turn(alloc, world, &start.visible, &code)? {
+        if let Some(outcome) = state.turn(alloc, world, &start.visible, &start.visible, &code)? {
             return Ok(outcome);
         }
     }
     Ok(CodeOutcome::Running { calls: state.calls })
+}
+
+/// An outcome with its calls counted.
+fn counted(outcome: CodeOutcome) -> CodeStanding
+    ensures { result ≡ standing.standing_of outcome }
+{
+    match outcome {
+        CodeOutcome::Stuck => CodeStanding::Stuck,
+        CodeOutcome::Running { calls } => CodeStanding::Running {
+            calls: calls.len() as u64,
+        },
+        CodeOutcome::Asked { calls } => CodeStanding::Asked {
+            calls: calls.len() as u64,
+        },
+        CodeOutcome::Returned {
+            value,
+            memory,
+            calls,
+            ..
+        } => CodeStanding::Returned {
+            value,
+            memory,
+            calls: calls.len() as u64,
+        },
+    }
+}
+
+/// What at most `k` lines of the items come to, from the first on, the calls counted. What called
+/// functions see is not kept.
+pub fn lines_standing(
+    alloc: Global,
+    lines: &[CodeItem],
+    start: &Start,
+    world: &World,
+    k: u64,
+) -> Result<CodeStanding, Memory>
+    ensures { IfOk result (λ s. s ≡ standing.standing_of (spec.run lines.now start.now world.now k)) }
+{
+    let code = LabelledItems::of(alloc, lines)?;
+    let none = Items::new(alloc);
+    let mut state = CodeState {
+        rest: lines,
+        machine: entry(alloc, start)?,
+        replies: world.replies.as_slice(),
+        calls: Items::new(alloc),
+    };
+    for _ in 0..k {
+        if let Some(outcome) = state.turn(alloc, world, &none, &start.visible, &code)? {
+            return Ok(counted(outcome));
+        }
+    }
+    Ok(CodeStanding::Running {
+        calls: state.calls.len() as u64,
+    })
 }

@@ -2,11 +2,11 @@
 ghost use Rattle.std.specs.Prelude.{◌≡◌, ◌++◌, map, option_copied, IfOk, OnOk};
 ghost use Rattle.rtl_step.specs.Call as calls;
 ghost use Rattle.term_tree.specs.View.{tree_of};
-ghost use Rattle.sym_term.specs.Views.{store_of};
-ghost use Rattle.sym_state.specs.Views.{call_of, changed_of, state_of};
+ghost use Rattle.sym_state.specs.Views.{call_of, state_of};
 ghost use Rattle.sym_insns.specs.Effects as spec;
-ghost use Rattle.sym_insns.specs.machine.Making.{AreArgs, IsCall, IsMade, with_call};
+ghost use Rattle.sym_insns.specs.machine.Making.{AreArgs, IsCall, IsMade, regs_of, stores_of, with_call};
 
+use crate::before::Before;
 use crate::effect::add_needs;
 use crate::operation::Needs;
 use crate::value::{make, read_register};
@@ -15,8 +15,8 @@ use plain_data::Memory;
 use rtl_step::{call_part, target_of, width_of};
 use rtx_tree::{ArgUse, Code, Mode, Rtx};
 use std::alloc::Global;
-use sym_state::{NeedOf, SymArg, SymArgs, SymCall, SymRegs, SymState, leave_by_call};
-use sym_term::{SymStores, TermMaker};
+use sym_state::{NeedOf, SymArg, SymArgs, SymCall, SymState, leave_by_call};
+use sym_term::TermMaker;
 use term_sums::constant_term;
 use term_tree::Term;
 
@@ -44,54 +44,50 @@ fn nothing(alloc: Global, needs: &mut Needs) -> Result<Term, Memory>
 /// The address that is called.
 fn make_target(
     maker: &mut TermMaker,
-    alloc: Global,
-    regs: &SymRegs,
-    stores: &SymStores,
+    before: &Before,
     target: Option<&Rtx>,
     needs: &mut Needs,
 ) -> Result<Term, Memory>
     ensures { IfOk result (λ r. IsMade needs.old needs.new (tree_of r)
-        (spec.made_target (map changed_of regs.now) (map store_of stores.now)
+        (spec.made_target (regs_of before.now) (stores_of before.now)
         (option_copied target.entry))) }
 {
     match target {
-        None => nothing(alloc, needs),
-        Some(x) => make(maker, alloc, regs, stores, x, Width::W64, needs),
+        None => nothing(before.alloc, needs),
+        Some(x) => make(maker, before, x, Width::W64, needs),
     }
 }
 
 /// An argument in its mode.
 fn make_arg(
     maker: &mut TermMaker,
-    alloc: Global,
-    regs: &SymRegs,
+    before: &Before,
     arg: ArgUse,
     needs: &mut Needs,
 ) -> Result<Term, Memory>
     ensures { IfOk result (λ r. IsMade needs.old needs.new (tree_of r)
-        (spec.made_arg (map changed_of regs.now) arg)) }
+        (spec.made_arg (regs_of before.now) arg)) }
 {
     match width_of(arg.mode) {
-        None => nothing(alloc, needs),
-        Some(w) => read_register(maker, alloc, regs, u64::from(arg.reg), w, needs),
+        None => nothing(before.alloc, needs),
+        Some(w) => read_register(maker, before, u64::from(arg.reg), w, needs),
     }
 }
 
 /// The arguments, in order.
 fn make_args(
     maker: &mut TermMaker,
-    alloc: Global,
-    regs: &SymRegs,
+    before: &Before,
     uses: &[ArgUse],
     needs: &mut Needs,
 ) -> Result<SymArgs, Memory>
     ensures { IfOk result (λ args. AreArgs needs.old needs.new args
-        (spec.args_of (map changed_of regs.now) uses.now)
-        (spec.args_needs (map changed_of regs.now) uses.now)) }
+        (spec.args_of (regs_of before.now) uses.now)
+        (spec.args_needs (regs_of before.now) uses.now)) }
 {
-    let mut args = SymArgs::new(alloc);
+    let mut args = SymArgs::new(before.alloc);
     for arg in uses {
-        let value = make_arg(maker, alloc, regs, *arg, needs)?;
+        let value = make_arg(maker, before, *arg, needs)?;
         args.push(SymArg {
             reg: arg.reg,
             value,
@@ -103,21 +99,19 @@ fn make_args(
 /// What is called.
 fn make_call(
     maker: &mut TermMaker,
-    alloc: Global,
-    regs: &SymRegs,
-    stores: &SymStores,
+    before: &Before,
     x: &Rtx,
     uses: &[ArgUse],
     needs: &mut Needs,
 ) -> Result<SymCall, Memory>
     ensures { IfOk result (λ call. IsCall needs.old needs.new call
-        (spec.made_target (map changed_of regs.now) (map store_of stores.now)
+        (spec.made_target (regs_of before.now) (stores_of before.now)
         (calls.target_of (calls.call_part x.now))) (spec.result_mode x.now)
-        (spec.args_of (map changed_of regs.now) uses.now)
-        (spec.args_needs (map changed_of regs.now) uses.now)) }
+        (spec.args_of (regs_of before.now) uses.now)
+        (spec.args_needs (regs_of before.now) uses.now)) }
 {
-    let target = make_target(maker, alloc, regs, stores, target_of(call_part(x)), needs)?;
-    let args = make_args(maker, alloc, regs, uses, needs)?;
+    let target = make_target(maker, before, target_of(call_part(x)), needs)?;
+    let args = make_args(maker, before, uses, needs)?;
     Ok(SymCall {
         target,
         result: result_mode(x),
@@ -154,15 +148,12 @@ pub fn run_call(
         ≡ spec.after_call index x.now uses.now (state_of state.old)) }
 {
     let mut needs = Needs::new(alloc);
-    let call = make_call(
-        maker,
+    let before = Before {
         alloc,
-        &state.regs,
-        &state.stores,
-        x,
-        uses,
-        &mut needs,
-    )?;
+        regs: &state.regs,
+        stores: &state.stores,
+    };
+    let call = make_call(maker, &before, x, uses, &mut needs)?;
     leave(state, call)?;
     add_needs(&mut state.needs, index, needs)
 }

@@ -1,14 +1,14 @@
 //! What a plain instruction does to a symbolic state.
 ghost use Rattle.std.specs.Prelude.{◌≡◌, ◌++◌, [], ◌∷◌, map, IfOk, OnOk};
 ghost use Rattle.rtl_step.specs.Effect.{register_of as register_spec};
-ghost use Rattle.sym_term.specs.Views.{store_of};
 ghost use Rattle.sym_state.specs.State.{Access, needs_at};
 ghost use Rattle.term_tree.specs.View.{tree_of};
-ghost use Rattle.sym_state.specs.Views.{changed_of, need_at_of, need_of, state_of};
+ghost use Rattle.sym_state.specs.Views.{need_at_of, need_of, state_of};
 ghost use Rattle.sym_insns.specs.Effects as spec;
 ghost use Rattle.sym_insns.specs.Value.{made_of};
-ghost use Rattle.sym_insns.specs.machine.Making.{IsMade, at_place, effect_view, effected_view, with_effect};
+ghost use Rattle.sym_insns.specs.machine.Making.{IsMade, at_place, effect_view, effected_view, regs_of, stores_of, with_effect};
 
+use crate::before::Before;
 use crate::operation::Needs;
 use crate::value::make;
 use bits64::Width;
@@ -16,8 +16,8 @@ use plain_data::{Items, Memory};
 use rtl_step::{address_of, register_of, width_of};
 use rtx_tree::{Code, Rtx};
 use std::alloc::Global;
-use sym_state::{NeedOf, SymNeed, SymNeeds, SymRegs, SymState, put};
-use sym_term::{SymStore, SymStores, TermMaker};
+use sym_state::{NeedOf, SymNeed, SymNeeds, SymState, put};
+use sym_term::{SymStore, TermMaker};
 use term_tree::{Measured, Term};
 
 /// What one part of an instruction does, its terms made.
@@ -82,22 +82,20 @@ fn simply(alloc: Global, effect: EffectOf) -> EffectedOf
 
 fn set_register(
     maker: &mut TermMaker,
-    alloc: Global,
-    regs: &SymRegs,
-    stores: &SymStores,
+    before: &Before,
     place: &Rtx,
     source: &Rtx,
     w: Width,
 ) -> Result<EffectedOf, Memory>
     ensures { IfOk result (λ e. effected_view e
         ≡ spec.set_register (register_spec place.now)
-        (made_of (map changed_of regs.now) (map store_of stores.now) source.now w)) }
+        (made_of (regs_of before.now) (stores_of before.now) source.now w)) }
 {
     let Some(reg) = register_of(place) else {
-        return no_effect(alloc);
+        return no_effect(before.alloc);
     };
-    let mut needs = Needs::new(alloc);
-    let value = make(maker, alloc, regs, stores, source, w, &mut needs)?;
+    let mut needs = Needs::new(before.alloc);
+    let value = make(maker, before, source, w, &mut needs)?;
     Ok(EffectedOf {
         effect: EffectOf::Sets { reg, value },
         needs,
@@ -119,39 +117,35 @@ fn need_access(alloc: Global, address: &Term, w: Width, needs: &mut Needs) -> Re
 /// The address of a place in memory.
 fn make_place(
     maker: &mut TermMaker,
-    alloc: Global,
-    regs: &SymRegs,
-    stores: &SymStores,
+    before: &Before,
     address: &Rtx,
     w: Width,
     needs: &mut Needs,
 ) -> Result<Term, Memory>
     ensures { IfOk result (λ r. IsMade needs.old needs.new (tree_of r)
         (at_place
-        (made_of (map changed_of regs.now) (map store_of stores.now) address.now Width.W64) w)) }
+        (made_of (regs_of before.now) (stores_of before.now) address.now Width.W64) w)) }
 {
-    let term = make(maker, alloc, regs, stores, address, Width::W64, needs)?;
-    need_access(alloc, &term, w, needs)?;
+    let term = make(maker, before, address, Width::W64, needs)?;
+    need_access(before.alloc, &term, w, needs)?;
     Ok(term)
 }
 
 fn set_memory(
     maker: &mut TermMaker,
-    alloc: Global,
-    regs: &SymRegs,
-    stores: &SymStores,
+    before: &Before,
     address: &Rtx,
     source: &Rtx,
     w: Width,
 ) -> Result<EffectedOf, Memory>
     ensures { IfOk result (λ e. effected_view e
         ≡ spec.set_memory
-        (made_of (map changed_of regs.now) (map store_of stores.now) address.now Width.W64)
-        (made_of (map changed_of regs.now) (map store_of stores.now) source.now w) w) }
+        (made_of (regs_of before.now) (stores_of before.now) address.now Width.W64)
+        (made_of (regs_of before.now) (stores_of before.now) source.now w) w) }
 {
-    let mut needs = Needs::new(alloc);
-    let value = make(maker, alloc, regs, stores, source, w, &mut needs)?;
-    let address = make_place(maker, alloc, regs, stores, address, w, &mut needs)?;
+    let mut needs = Needs::new(before.alloc);
+    let value = make(maker, before, source, w, &mut needs)?;
+    let address = make_place(maker, before, address, w, &mut needs)?;
     Ok(EffectedOf {
         effect: EffectOf::Stores { address, value },
         needs,
@@ -160,22 +154,20 @@ fn set_memory(
 
 fn set_effect(
     maker: &mut TermMaker,
-    alloc: Global,
-    regs: &SymRegs,
-    stores: &SymStores,
+    before: &Before,
     place: &Rtx,
     source: &Rtx,
 ) -> Result<EffectedOf, Memory>
     ensures { IfOk result (λ e. effected_view e
-        ≡ spec.set_effect (map changed_of regs.now) (map store_of stores.now)
+        ≡ spec.set_effect (regs_of before.now) (stores_of before.now)
         place.now source.now) }
 {
     let Some(w) = width_of(place.mode) else {
-        return no_effect(alloc);
+        return no_effect(before.alloc);
     };
     match address_of(place) {
-        None => set_register(maker, alloc, regs, stores, place, source, w),
-        Some(address) => set_memory(maker, alloc, regs, stores, address, source, w),
+        None => set_register(maker, before, place, source, w),
+        Some(address) => set_memory(maker, before, address, source, w),
     }
 }
 
@@ -198,71 +190,51 @@ fn clobber_effect(alloc: Global, place: &Rtx) -> Result<EffectedOf, Memory>
 }
 
 /// The effect of a `set`, a `use` or a `clobber`.
-fn effect_of(
-    maker: &mut TermMaker,
-    alloc: Global,
-    regs: &SymRegs,
-    stores: &SymStores,
-    x: &Rtx,
-) -> Result<EffectedOf, Memory>
+fn effect_of(maker: &mut TermMaker, before: &Before, x: &Rtx) -> Result<EffectedOf, Memory>
     ensures { IfOk result (λ e. effected_view e
-        ≡ spec.effect_of (map changed_of regs.now) (map store_of stores.now) x.now) }
+        ≡ spec.effect_of (regs_of before.now) (stores_of before.now) x.now) }
 {
     match (x.code, x.kids.as_slice()) {
-        (Code::Set, [place, source]) => set_effect(maker, alloc, regs, stores, place, source),
-        (Code::Use, [_]) => Ok(simply(alloc, EffectOf::Nothing)),
-        (Code::Clobber, [place]) => clobber_effect(alloc, place),
-        _ => no_effect(alloc),
+        (Code::Set, [place, source]) => set_effect(maker, before, place, source),
+        (Code::Use, [_]) => Ok(simply(before.alloc, EffectOf::Nothing)),
+        (Code::Clobber, [place]) => clobber_effect(before.alloc, place),
+        _ => no_effect(before.alloc),
     }
 }
 
 /// Each part's effect, all by one state.
 fn all_effects(
     maker: &mut TermMaker,
-    alloc: Global,
-    regs: &SymRegs,
-    stores: &SymStores,
+    before: &Before,
     parts: &[Rtx],
 ) -> Result<Items<EffectedOf>, Memory>
     ensures { IfOk result (λ effects. map effected_view effects
-        ≡ map (spec.effect_of (map changed_of regs.now) (map store_of stores.now)) parts.now) }
+        ≡ map (spec.effect_of (regs_of before.now) (stores_of before.now)) parts.now) }
 {
-    let mut effects = Items::new(alloc);
+    let mut effects = Items::new(before.alloc);
     for part in parts {
-        effects.push(effect_of(maker, alloc, regs, stores, part)?)?;
+        effects.push(effect_of(maker, before, part)?)?;
     }
     Ok(effects)
 }
 
-fn one_effect(
-    maker: &mut TermMaker,
-    alloc: Global,
-    regs: &SymRegs,
-    stores: &SymStores,
-    x: &Rtx,
-) -> Result<Items<EffectedOf>, Memory>
+fn one_effect(maker: &mut TermMaker, before: &Before, x: &Rtx) -> Result<Items<EffectedOf>, Memory>
     ensures { IfOk result (λ effects. map effected_view effects
-        ≡ spec.effect_of (map changed_of regs.now) (map store_of stores.now) x.now ∷ []) }
+        ≡ spec.effect_of (regs_of before.now) (stores_of before.now) x.now ∷ []) }
 {
-    let mut effects = Items::new(alloc);
-    effects.push(effect_of(maker, alloc, regs, stores, x)?)?;
+    let mut effects = Items::new(before.alloc);
+    effects.push(effect_of(maker, before, x)?)?;
     Ok(effects)
 }
 
 /// The effects of an instruction that goes on to the next, all by one state.
-fn effects_of(
-    maker: &mut TermMaker,
-    alloc: Global,
-    regs: &SymRegs,
-    stores: &SymStores,
-    x: &Rtx,
-) -> Result<Items<EffectedOf>, Memory>
+fn effects_of(maker: &mut TermMaker, before: &Before, x: &Rtx) -> Result<Items<EffectedOf>, Memory>
     ensures { IfOk result (λ effects. map effected_view effects
-        ≡ spec.effects_of (map changed_of regs.now) (map store_of stores.now) x.now) }
+        ≡ spec.effects_of (regs_of before.now) (stores_of before.now) x.now) }
 {
     match x.code {
-        Code::Parallel => all_effects(maker, alloc, regs, stores, x.kids.as_slice()),
-        _ => one_effect(maker, alloc, regs, stores, x),
+        Code::Parallel => all_effects(maker, before, x.kids.as_slice()),
+        _ => one_effect(maker, before, x),
     }
 }
 
@@ -326,6 +298,11 @@ pub fn run_plain(
 ) -> Result<(), Memory>
     ensures { OnOk result (state_of state.new ≡ spec.after_plain index x.now (state_of state.old)) }
 {
-    let effects = effects_of(maker, alloc, &state.regs, &state.stores, x)?;
+    let before = Before {
+        alloc,
+        regs: &state.regs,
+        stores: &state.stores,
+    };
+    let effects = effects_of(maker, &before, x)?;
     make_effects(state, index, effects)
 }

@@ -7,6 +7,7 @@ ghost use Rattle.sym_insns.specs.Effects as spec;
 ghost use Rattle.sym_insns.specs.Value.{made_of};
 ghost use Rattle.sym_insns.specs.machine.Making.{with_jump};
 
+use crate::before::Before;
 use crate::effect::add_needs;
 use crate::operation::Needs;
 use crate::value::make;
@@ -51,15 +52,12 @@ fn branch(
         label.now (state_of state.old)) }
 {
     let mut needs = Needs::new(alloc);
-    let condition = make(
-        maker,
+    let before = Before {
         alloc,
-        &state.regs,
-        &state.stores,
-        test,
-        Width::W8,
-        &mut needs,
-    )?;
+        regs: &state.regs,
+        stores: &state.stores,
+    };
+    let condition = make(maker, &before, test, Width::W8, &mut needs)?;
     lead(state, condition, label);
     add_needs(&mut state.needs, index, needs)
 }

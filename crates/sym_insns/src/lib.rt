@@ -8,6 +8,7 @@
 //! its definition gives, unless memory runs out.
 #![tactic(auto)]
 
+mod before;
 mod call;
 mod effect;
 mod jump;

@@ -2,21 +2,33 @@
 ghost use Rattle.std.specs.Prelude.{◌≡◌, ◌++◌, [], ◌∷◌, map, Some, IfOk, OnOk};
 ghost use Rattle.term_tree.specs.View.{tree_of};
 ghost use Rattle.term_mean.specs.Sums as sums;
-ghost use Rattle.sym_term.specs.Views.{store_of};
 ghost use Rattle.sym_state.specs.Views.{need_of};
 ghost use Rattle.sym_insns.specs.Value as spec;
+ghost use Rattle.sym_insns.specs.machine.Making.{stores_of};
 
+use crate::before::Before;
 use bits64::Width;
 use plain_data::{Items, Memory};
 use rtx_tree::Code;
 use std::alloc::Global;
 use sym_state::{NeedOf, less_one, one, sum, truth_in, two};
-use sym_term::{SymStores, TermMaker};
+use sym_term::TermMaker;
 use term_sums::{constant_of, minus_one};
 use term_tree::{Head, Measured, Relation, Term};
 
 /// Needs, in the order in which they are met.
 pub type Needs = Items<NeedOf>;
+
+/// An operation on two operands.
+#[derive(Clone, Copy)]
+pub struct Operation {
+    /// Its code.
+    pub code: Code,
+    /// The width in which its second operand is read.
+    pub operand: Width,
+    /// The width of its value.
+    pub width: Width,
+}
 
 /// `neg` and `not`.
 pub fn unary(
@@ -57,18 +69,17 @@ fn head_of(code: Code) -> Option<Head>
 
 fn with_head(
     maker: &mut TermMaker,
-    alloc: Global,
-    stores: &SymStores,
+    before: &Before,
     head: Option<Head>,
     w: Width,
     a: Term,
     b: Term,
 ) -> Result<Term, Memory>
     ensures { IfOk result (λ r. tree_of r
-        ≡ spec.with_head (map store_of stores.now) head w (tree_of a) (tree_of b)) }
+        ≡ spec.with_head (stores_of before.now) head w (tree_of a) (tree_of b)) }
 {
     match head {
-        Some(head) => two(maker, alloc, stores, head, w, a, b),
+        Some(head) => two(maker, before.alloc, before.stores, head, w, a, b),
         None => Ok(a),
     }
 }
@@ -76,20 +87,20 @@ fn with_head(
 /// A value of two operands of one mode, or a shift.
 pub fn binary(
     maker: &mut TermMaker,
-    alloc: Global,
-    stores: &SymStores,
-    code: Code,
-    w: Width,
+    before: &Before,
+    operation: Operation,
     a: Term,
     b: Term,
 ) -> Result<Term, Memory>
-    ensures { IfOk result (λ r. tree_of r ≡ spec.binary (map store_of stores.now) code w (tree_of a)
+    ensures { IfOk result (λ r. tree_of r
+        ≡ spec.binary (stores_of before.now) operation.code operation.width (tree_of a)
         (tree_of b)) }
 {
+    let Operation { code, width, .. } = operation;
     match code {
-        Code::Plus => sum(maker, alloc, w, a, 1, b),
-        Code::Minus => sum(maker, alloc, w, a, minus_one(w), b),
-        _ => with_head(maker, alloc, stores, head_of(code), w, a, b),
+        Code::Plus => sum(maker, before.alloc, width, a, 1, b),
+        Code::Minus => sum(maker, before.alloc, width, a, minus_one(width), b),
+        _ => with_head(maker, before, head_of(code), width, a, b),
     }
 }
 
@@ -126,19 +137,18 @@ pub fn need_divisor(alloc: Global, code: Code, b: &Term, needs: &mut Needs) -> R
 /// An extension or a truncation.
 pub fn converted(
     maker: &mut TermMaker,
-    alloc: Global,
-    stores: &SymStores,
+    before: &Before,
     code: Code,
     w: Width,
     a: Term,
 ) -> Result<Term, Memory>
     ensures { IfOk result (λ r. tree_of r
-        ≡ spec.converted (map store_of stores.now) code w (tree_of a)) }
+        ≡ spec.converted (stores_of before.now) code w (tree_of a)) }
 {
     match code {
-        Code::SignExtend => one(maker, alloc, stores, Head::Sext, w, a),
-        Code::ZeroExtend => one(maker, alloc, stores, Head::Zext, w, a),
-        Code::Truncate => one(maker, alloc, stores, Head::Trunc, w, a),
+        Code::SignExtend => one(maker, before.alloc, before.stores, Head::Sext, w, a),
+        Code::ZeroExtend => one(maker, before.alloc, before.stores, Head::Zext, w, a),
+        Code::Truncate => one(maker, before.alloc, before.stores, Head::Trunc, w, a),
         _ => Ok(a),
     }
 }
@@ -163,38 +173,34 @@ fn relation_of(code: Code) -> Option<Relation>
 
 fn related(
     maker: &mut TermMaker,
-    alloc: Global,
-    stores: &SymStores,
+    before: &Before,
     relation: Relation,
-    own: Width,
-    w: Width,
+    operation: Operation,
     a: Term,
     b: Term,
 ) -> Result<Term, Memory>
     ensures { IfOk result (λ r. tree_of r
-        ≡ spec.related (map store_of stores.now) (Some relation) own w (tree_of a) (tree_of b)) }
+        ≡ spec.related (stores_of before.now) (Some relation) operation.operand operation.width
+        (tree_of a) (tree_of b)) }
 {
-    let truth = maker.compared(relation, own, a, b)?;
-    truth_in(maker, alloc, stores, w, truth)
+    let truth = maker.compared(relation, operation.operand, a, b)?;
+    truth_in(maker, before.alloc, before.stores, operation.width, truth)
 }
 
-/// A comparison of two operands of so many bits, in a width.
+/// A comparison of two operands.
 pub fn compared(
     maker: &mut TermMaker,
-    alloc: Global,
-    stores: &SymStores,
-    code: Code,
-    own: Width,
-    w: Width,
+    before: &Before,
+    operation: Operation,
     a: Term,
     b: Term,
 ) -> Result<Term, Memory>
     ensures { IfOk result (λ r. tree_of r
-        ≡ spec.related (map store_of stores.now) (spec.relation_of code) own w (tree_of a)
-        (tree_of b)) }
+        ≡ spec.related (stores_of before.now) (spec.relation_of operation.code) operation.operand
+        operation.width (tree_of a) (tree_of b)) }
 {
-    match relation_of(code) {
-        Some(relation) => related(maker, alloc, stores, relation, own, w, a, b),
+    match relation_of(operation.code) {
+        Some(relation) => related(maker, before, relation, operation, a, b),
         None => Ok(a),
     }
 }

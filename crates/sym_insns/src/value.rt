@@ -5,22 +5,22 @@ ghost use Rattle.rtx_tree.specs.declared.tree.Rtx.{out-Rtx};
 ghost use Rattle.rtl_step.specs.Value as step;
 ghost use Rattle.rtl_step.specs.Value.{first_width, count_width};
 ghost use Rattle.term_tree.specs.View.{tree_of};
-ghost use Rattle.sym_term.specs.Views.{store_of};
 ghost use Rattle.sym_state.specs.State.{Access};
-ghost use Rattle.sym_state.specs.Views.{changed_of, need_of};
+ghost use Rattle.sym_state.specs.Views.{need_of};
 ghost use Rattle.sym_state.specs.machine.Places.{listed};
 ghost use Rattle.sym_insns.specs.Value as spec;
 ghost use Rattle.sym_insns.specs.Value.{made_of};
-ghost use Rattle.sym_insns.specs.machine.Making.{IsMade, reading_by_mode};
+ghost use Rattle.sym_insns.specs.machine.Making.{IsMade, reading_by_mode, regs_of, stores_of};
 
-use crate::operation::{Needs, binary, compared, converted, need_divisor, unary};
+use crate::before::Before;
+use crate::operation::{Needs, Operation, binary, compared, converted, need_divisor, unary};
 use bits64::Width;
 use plain_data::{Items, Memory};
 use rtl_step::width_of;
 use rtx_tree::{Class, Code, Mode, Name, Rtx};
 use std::alloc::Global;
-use sym_state::{NeedOf, SymRegs, own_symbol, read, read_need};
-use sym_term::{SymStores, TermMaker};
+use sym_state::{NeedOf, own_symbol, read, read_need};
+use sym_term::TermMaker;
 use term_sums::constant_term;
 use term_tree::{Head, Measured, Term};
 
@@ -46,17 +46,16 @@ fn note(need: Option<NeedOf>, needs: &mut Needs) -> Result<(), Memory>
 /// The low bits of a register.
 pub fn read_register(
     maker: &mut TermMaker,
-    alloc: Global,
-    regs: &SymRegs,
+    before: &Before,
     reg: u64,
     w: Width,
     needs: &mut Needs,
 ) -> Result<Term, Memory>
     ensures { IfOk result (λ r. IsMade needs.old needs.new (tree_of r)
-        (spec.of_register (map changed_of regs.now) reg w)) }
+        (spec.of_register (regs_of before.now) reg w)) }
 {
-    note(read_need(regs, reg, w), needs)?;
-    read(maker, alloc, regs, reg, w)
+    note(read_need(before.regs, reg, w), needs)?;
+    read(maker, before.alloc, before.regs, reg, w)
 }
 
 /// The address of a symbol.
@@ -80,71 +79,74 @@ fn symbol(
 /// An expression without parts.
 fn made_of_none(
     maker: &mut TermMaker,
-    alloc: Global,
-    regs: &SymRegs,
+    before: &Before,
     x: &Rtx,
     w: Width,
     needs: &mut Needs,
 ) -> Result<Term, Memory>
     ensures { IfOk result (λ r. IsMade needs.old needs.new (tree_of r)
-        (spec.made_of_none (map changed_of regs.now) (class_of_code (out-Rtx x.now).code)
+        (spec.made_of_none (regs_of before.now) (class_of_code (out-Rtx x.now).code)
         (out-Rtx x.now).number (out-Rtx x.now).name w)) }
 {
     match x.code.class() {
-        Class::Register => read_register(maker, alloc, regs, x.number.cast_unsigned(), w, needs),
-        Class::Constant => Ok(constant_term(alloc, w, x.number.cast_unsigned())),
-        Class::Symbol => symbol(maker, alloc, &x.name, w, needs),
-        _ => no_value(alloc, w, needs),
+        Class::Register => read_register(maker, before, x.number.cast_unsigned(), w, needs),
+        Class::Constant => Ok(constant_term(before.alloc, w, x.number.cast_unsigned())),
+        Class::Symbol => symbol(maker, before.alloc, &x.name, w, needs),
+        _ => no_value(before.alloc, w, needs),
     }
 }
 
 /// What stands at an address, behind all stores so far.
 fn load(
     maker: &mut TermMaker,
-    alloc: Global,
-    stores: &SymStores,
+    before: &Before,
     w: Width,
     address: Term,
     needs: &mut Needs,
 ) -> Result<Term, Memory>
     ensures { IfOk result (λ r. IsMade needs.old needs.new (tree_of r)
         (record {
-          term = spec.load_at (map store_of stores.now) w (tree_of address);
+          term = spec.load_at (stores_of before.now) w (tree_of address);
           needs = Access (tree_of address) w ∷ [];
         })) }
 {
     needs.push(NeedOf::Access {
-        address: Measured::of(address.copy(alloc)?),
+        address: Measured::of(address.copy(before.alloc)?),
         width: w,
     })?;
-    let mut parts = Vec::new(alloc);
+    let mut parts = Vec::new(before.alloc);
     parts.push(address)?;
-    let count = stores.len() as u64;
-    maker.built(stores, Head::Load, w, count, Name::empty(alloc), parts)
+    let count = before.stores.len() as u64;
+    maker.built(
+        before.stores,
+        Head::Load,
+        w,
+        count,
+        Name::empty(before.alloc),
+        parts,
+    )
 }
 
 /// An extension or a truncation, whose operand is read in its own mode.
 #[cycle(make)]
 fn of_converted(
     maker: &mut TermMaker,
-    alloc: Global,
-    regs: &SymRegs,
-    stores: &SymStores,
+    before: &Before,
     code: Code,
     a: &Rtx,
     w: Width,
     needs: &mut Needs,
 ) -> Result<Term, Memory>
     ensures { IfOk result (λ r. IsMade needs.old needs.new (tree_of r)
-        (spec.of_converted (map store_of stores.now)
-        (reading_by_mode (map changed_of regs.now) (map store_of stores.now) a.now).width code
-        (reading_by_mode (map changed_of regs.now) (map store_of stores.now) a.now) w)) }
+        (spec.of_converted (stores_of before.now)
+        (reading_by_mode (regs_of before.now) (stores_of before.now) a.now).width code
+        (reading_by_mode (regs_of before.now) (stores_of before.now) a.now) w)) }
 {
     match width_of(a.mode) {
-        None => no_value(alloc, w, needs),
+        None => no_value(before.alloc, w, needs),
         Some(own) => {
-            let term = make(maker, alloc, regs, stores, a, own, needs)?;
-            converted(maker, alloc, stores, code, w, term)
+            let term = make(maker, before, a, own, needs)?;
+            converted(maker, before, code, w, term)
         }
     }
 }
@@ -153,32 +155,28 @@ fn of_converted(
 #[cycle(make)]
 fn made_of_one(
     maker: &mut TermMaker,
-    alloc: Global,
-    regs: &SymRegs,
-    stores: &SymStores,
+    before: &Before,
     code: Code,
     a: &Rtx,
     w: Width,
     needs: &mut Needs,
 ) -> Result<Term, Memory>
     ensures { IfOk result (λ r. IsMade needs.old needs.new (tree_of r)
-        (spec.made_of_one (map store_of stores.now) (class_of_code code) code
-        (reading_by_mode (map changed_of regs.now) (map store_of stores.now) a.now) w)) }
+        (spec.made_of_one (stores_of before.now) (class_of_code code) code
+        (reading_by_mode (regs_of before.now) (stores_of before.now) a.now) w)) }
 {
     match code.class() {
         Class::Memory => {
-            let address = make(maker, alloc, regs, stores, a, Width::W64, needs)?;
-            load(maker, alloc, stores, w, address, needs)
+            let address = make(maker, before, a, Width::W64, needs)?;
+            load(maker, before, w, address, needs)
         }
-        Class::Lowpart => make(maker, alloc, regs, stores, a, w, needs),
+        Class::Lowpart => make(maker, before, a, w, needs),
         Class::Unary => {
-            let term = make(maker, alloc, regs, stores, a, w, needs)?;
-            unary(maker, alloc, code, w, term)
+            let term = make(maker, before, a, w, needs)?;
+            unary(maker, before.alloc, code, w, term)
         }
-        Class::Extension | Class::Truncation => {
-            of_converted(maker, alloc, regs, stores, code, a, w, needs)
-        }
-        _ => no_value(alloc, w, needs),
+        Class::Extension | Class::Truncation => { of_converted(maker, before, code, a, w, needs) }
+        _ => no_value(before.alloc, w, needs),
     }
 }
 
@@ -204,129 +202,132 @@ fn count_width_of(b: &Rtx) -> Width
 /// An operation on two terms, the second of which may be a divisor.
 fn of_operands(
     maker: &mut TermMaker,
-    alloc: Global,
-    stores: &SymStores,
-    code: Code,
-    w: Width,
+    before: &Before,
+    operation: Operation,
     a: Term,
     b: Term,
     needs: &mut Needs,
 ) -> Result<Term, Memory>
     ensures { IfOk result (λ r. IsMade needs.old needs.new (tree_of r)
         (record {
-          term = spec.binary (map store_of stores.now) code w (tree_of a) (tree_of b);
-          needs = spec.divisor_needs code (tree_of b);
+          term = spec.binary (stores_of before.now) operation.code operation.width (tree_of a)
+              (tree_of b);
+          needs = spec.divisor_needs operation.code (tree_of b);
         })) }
 {
-    need_divisor(alloc, code, &b, needs)?;
-    binary(maker, alloc, stores, code, w, a, b)
+    need_divisor(before.alloc, operation.code, &b, needs)?;
+    binary(maker, before, operation, a, b)
 }
 
 /// An operation, of which the first operand is made.
 #[cycle(make)]
 fn binary_with(
     maker: &mut TermMaker,
-    alloc: Global,
-    regs: &SymRegs,
-    stores: &SymStores,
-    code: Code,
+    before: &Before,
+    operation: Operation,
     b: &Rtx,
     first: Term,
-    w: Width,
     needs: &mut Needs,
 ) -> Result<Term, Memory>
     ensures { IfOk result (λ r. IsMade needs.old needs.new (tree_of r)
-        (spec.of_operands (map store_of stores.now) code w
+        (spec.of_operands (stores_of before.now) operation.code operation.width
         (record { term = tree_of first; needs = [] })
-        (made_of (map changed_of regs.now) (map store_of stores.now) b.now w))) }
+        (made_of (regs_of before.now) (stores_of before.now) b.now operation.operand))) }
 {
-    let second = make(maker, alloc, regs, stores, b, w, needs)?;
-    of_operands(maker, alloc, stores, code, w, first, second, needs)
+    let second = make(maker, before, b, operation.operand, needs)?;
+    of_operands(maker, before, operation, first, second, needs)
 }
 
 /// A shift, of which the first operand is made.
 #[cycle(make)]
 fn shift_with(
     maker: &mut TermMaker,
-    alloc: Global,
-    regs: &SymRegs,
-    stores: &SymStores,
-    code: Code,
+    before: &Before,
+    operation: Operation,
     b: &Rtx,
     first: Term,
-    w: Width,
     needs: &mut Needs,
 ) -> Result<Term, Memory>
     ensures { IfOk result (λ r. IsMade needs.old needs.new (tree_of r)
-        (spec.of_one (spec.binary (map store_of stores.now) code w (tree_of first))
-        (made_of (map changed_of regs.now) (map store_of stores.now) b.now
-        (count_width (step.width_of (out-Rtx b.now).mode))))) }
+        (spec.of_one
+        (spec.binary (stores_of before.now) operation.code operation.width (tree_of first))
+        (made_of (regs_of before.now) (stores_of before.now) b.now operation.operand))) }
 {
-    let count = make(maker, alloc, regs, stores, b, count_width_of(b), needs)?;
-    binary(maker, alloc, stores, code, w, first, count)
+    let count = make(maker, before, b, operation.operand, needs)?;
+    binary(maker, before, operation, first, count)
 }
 
-/// A comparison of operands of so many bits, of which the first is made.
+/// A comparison, of which the first operand is made.
 #[cycle(make)]
 fn compared_with(
     maker: &mut TermMaker,
-    alloc: Global,
-    regs: &SymRegs,
-    stores: &SymStores,
-    code: Code,
-    own: Width,
+    before: &Before,
+    operation: Operation,
     b: &Rtx,
     first: Term,
-    w: Width,
     needs: &mut Needs,
 ) -> Result<Term, Memory>
     ensures { IfOk result (λ r. IsMade needs.old needs.new (tree_of r)
-        (spec.of_one (spec.related (map store_of stores.now) (spec.relation_of code) own w
-        (tree_of first))
-        (made_of (map changed_of regs.now) (map store_of stores.now) b.now own))) }
+        (spec.of_one
+        (spec.related (stores_of before.now) (spec.relation_of operation.code) operation.operand
+        operation.width (tree_of first))
+        (made_of (regs_of before.now) (stores_of before.now) b.now operation.operand))) }
 {
-    let second = make(maker, alloc, regs, stores, b, own, needs)?;
-    compared(maker, alloc, stores, code, own, w, first, second)
+    let second = make(maker, before, b, operation.operand, needs)?;
+    compared(maker, before, operation, first, second)
 }
 
 /// An expression of two parts; one of more has no value.
 #[cycle(make)]
 fn made_of_parts(
     maker: &mut TermMaker,
-    alloc: Global,
-    regs: &SymRegs,
-    stores: &SymStores,
+    before: &Before,
     code: Code,
     parts: &[Rtx],
     w: Width,
     needs: &mut Needs,
 ) -> Result<Term, Memory>
     ensures { IfOk result (λ r. IsMade needs.old needs.new (tree_of r)
-        (spec.made_of_parts (map store_of stores.now) (class_of_code code) code
-        (map (reading_by_mode (map changed_of regs.now) (map store_of stores.now)) parts.now) w)) }
+        (spec.made_of_parts (stores_of before.now) (class_of_code code) code
+        (map (reading_by_mode (regs_of before.now) (stores_of before.now)) parts.now) w)) }
 {
     match parts {
         [a, b] => match code.class() {
             Class::Binary => {
-                let first = make(maker, alloc, regs, stores, a, w, needs)?;
-                binary_with(maker, alloc, regs, stores, code, b, first, w, needs)
+                let first = make(maker, before, a, w, needs)?;
+                let operation = Operation {
+                    code,
+                    operand: w,
+                    width: w,
+                };
+                binary_with(maker, before, operation, b, first, needs)
             }
             Class::Shift => {
-                let first = make(maker, alloc, regs, stores, a, w, needs)?;
-                shift_with(maker, alloc, regs, stores, code, b, first, w, needs)
+                let first = make(maker, before, a, w, needs)?;
+                let operation = Operation {
+                    code,
+                    operand: count_width_of(b),
+                    width: w,
+                };
+                shift_with(maker, before, operation, b, first, needs)
             }
             Class::Comparison => match own_width(a, b) {
-                None => no_value(alloc, w, needs),
-                Some(own) => {
-                    let first = make(maker, alloc, regs, stores, a, own, needs)?;
-                    compared_with(maker, alloc, regs, stores, code, own, b, first, w, needs)
+                None => no_value(before.alloc, w, needs),
+                Some(operand) => {
+                    let first = make(maker, before, a, operand, needs)?;
+                    let operation = Operation {
+                        code,
+                        operand,
+                        width: w,
+                    };
+                    compared_with(maker, before, operation, b, first, needs)
                 }
             },
-            _ => no_value(alloc, w, needs),
+            _ => no_value(before.alloc, w, needs),
         },
-        [] => no_value(alloc, w, needs),
-        [_a] => no_value(alloc, w, needs),
-        [_a, _b, _c, ..] => no_value(alloc, w, needs),
+        [] => no_value(before.alloc, w, needs),
+        [_a] => no_value(before.alloc, w, needs),
+        [_a, _b, _c, ..] => no_value(before.alloc, w, needs),
     }
 }
 
@@ -335,19 +336,17 @@ fn made_of_parts(
 #[tactic(auto, using(crate::proofs::Values::made_read))]
 pub fn make(
     maker: &mut TermMaker,
-    alloc: Global,
-    regs: &SymRegs,
-    stores: &SymStores,
+    before: &Before,
     x: &Rtx,
     w: Width,
     needs: &mut Needs,
 ) -> Result<Term, Memory>
     ensures { IfOk result (λ r. IsMade needs.old needs.new (tree_of r)
-        (spec.made_of (map changed_of regs.now) (map store_of stores.now) x.now w)) }
+        (spec.made_of (regs_of before.now) (stores_of before.now) x.now w)) }
 {
     match x.kids.as_slice() {
-        [] => made_of_none(maker, alloc, regs, x, w, needs),
-        [a] => made_of_one(maker, alloc, regs, stores, x.code, a, w, needs),
-        parts => made_of_parts(maker, alloc, regs, stores, x.code, parts, w, needs),
+        [] => made_of_none(maker, before, x, w, needs),
+        [a] => made_of_one(maker, before, x.code, a, w, needs),
+        parts => made_of_parts(maker, before, x.code, parts, w, needs),
     }
 }

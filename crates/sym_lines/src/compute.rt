@@ -19,6 +19,19 @@ use sym_term::TermMaker;
 use term_sums::minus_one;
 use term_tree::{Head, Relation, Term, is_same_width};
 
+/// An operation in a width, with where its operands come from.
+#[derive(Clone, Copy)]
+pub(crate) struct Computation {
+    /// The operation.
+    pub operation: Operation,
+    /// Its width.
+    pub width: Width,
+    /// Where the first operand comes from.
+    pub left: Source,
+    /// Where the second operand comes from.
+    pub right: Source,
+}
+
 /// An operator of one part, which is no load.
 fn one(maker: &mut TermMaker, alloc: Global, head: Head, w: Width, a: Term) -> Result<Term, Memory>
     ensures { IfOk result (λ r. tree_of r ≡ makers.one [] head w (tree_of a)) }
@@ -133,21 +146,26 @@ fn exclusive_or(
     }
 }
 
-/// The result of an operation on two terms of a width, the second of which comes from a source.
+/// The result of an operation on two terms of its width.
 fn operated(
     maker: &mut TermMaker,
     alloc: Global,
-    operation: Operation,
-    right: Source,
-    w: Width,
+    computation: Computation,
     a: Term,
     b: Term,
 ) -> Result<Term, Memory>
     ensures { IfOk result (λ r. tree_of r
-        ≡ spec.operated operation right w (tree_of a) (tree_of b)) }
+        ≡ spec.operated computation.operation computation.right computation.width (tree_of a)
+        (tree_of b)) }
 {
+    let Computation {
+        operation,
+        width,
+        right,
+        ..
+    } = computation;
     match operation {
-        Operation::Xor => exclusive_or(maker, alloc, right, w, a, b),
+        Operation::Xor => exclusive_or(maker, alloc, right, width, a, b),
         Operation::Add
         | Operation::Sub
         | Operation::And
@@ -164,7 +182,7 @@ fn operated(
         | Operation::Div
         | Operation::Divu
         | Operation::Rem
-        | Operation::Remu => result_of(maker, alloc, operation, w, a, b),
+        | Operation::Remu => result_of(maker, alloc, operation, width, a, b),
     }
 }
 
@@ -210,19 +228,18 @@ pub(crate) fn extended(
 pub(crate) fn computed(
     maker: &mut TermMaker,
     alloc: Global,
-    operation: Operation,
-    right: Source,
-    w: Width,
+    computation: Computation,
     a: &Term,
     b: &Term,
 ) -> Result<Term, Memory>
     ensures { IfOk result (λ r. tree_of r
-        ≡ spec.computed operation right w (tree_of a.now) (tree_of b.now)) }
+        ≡ spec.computed computation.operation computation.right computation.width (tree_of a.now)
+        (tree_of b.now)) }
 {
-    let low_a = maker.cut(w, a)?;
-    let low_b = maker.cut(w, b)?;
-    let term = operated(maker, alloc, operation, right, w, low_a, low_b)?;
-    signed_in_64(maker, alloc, w, term)
+    let low_a = maker.cut(computation.width, a)?;
+    let low_b = maker.cut(computation.width, b)?;
+    let term = operated(maker, alloc, computation, low_a, low_b)?;
+    signed_in_64(maker, alloc, computation.width, term)
 }
 
 fn relation_of(comparison: Comparison) -> Relation

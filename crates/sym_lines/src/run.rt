@@ -7,7 +7,7 @@ ghost use Rattle.sym_state.specs.State.{ran, start};
 ghost use Rattle.sym_lines.specs.Run as spec;
 
 use crate::label::label_uid;
-use crate::step::act;
+use crate::step::{Step, act};
 use plain_data::Memory;
 use rtx_tree::MOST_NODES;
 use rv_text::{Action, Line};
@@ -74,7 +74,13 @@ pub fn run_line_on(
     match line.action() {
         Some(action) => {
             let uid = label_uid(function, line.target.bytes());
-            act(maker, alloc, state, action, index, uid, line)
+            let step = Step {
+                alloc,
+                index,
+                uid,
+                line,
+            };
+            act(maker, state, &step, action)
         }
         None => Ok(()),
     }

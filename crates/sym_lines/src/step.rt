@@ -11,7 +11,7 @@ ghost use Rattle.sym_lines.specs.Compute as operations;
 ghost use Rattle.sym_lines.specs.Step as spec;
 ghost use Rattle.sym_lines.specs.machine.Parts as parts;
 
-use crate::compute::{compared, computed, extended};
+use crate::compute::{Computation, compared, computed, extended};
 use crate::source::{
     address, need_access, need_register, need_sources, need_store, need_symbol, register, source,
     stored,
@@ -19,7 +19,7 @@ use crate::source::{
 use bits64::Width;
 use plain_data::{Items, Memory};
 use rtx_tree::Name;
-use rv_text::{Action, Comparison, Extension, Line, Operation, Source};
+use rv_text::{Action, Comparison, Extension, Line, Source};
 use std::alloc::Global;
 use sym_state::{
     SymArg, SymArgs, SymCall, SymJump, SymRegs, SymState, leave_by_call, own_symbol, put,
@@ -28,45 +28,56 @@ use sym_term::{SymStore, SymStores, TermMaker};
 use term_sums::constant_term;
 use term_tree::{Head, Measured, Term};
 
+/// The step of a line.
+#[derive(Drop)]
+pub(crate) struct Step<'a> {
+    /// Where terms are made.
+    pub alloc: Global,
+    /// The line's place.
+    pub index: u32,
+    /// The uid for which its label stands, if it stands for one.
+    pub uid: Option<u32>,
+    /// The line.
+    pub line: &'a Line,
+}
+
 /// What a computing line writes.
 fn value_of(
     maker: &mut TermMaker,
-    alloc: Global,
     regs: &SymRegs,
-    line: &Line,
-    operation: Operation,
-    w: Width,
-    left: Source,
-    right: Source,
+    step: &Step,
+    computation: Computation,
 ) -> Result<Term, Memory>
-    ensures { IfOk result (λ r. tree_of r ≡ operations.computed operation right w
-        (spec.source (map changed_of regs.now) line.now left)
-        (spec.source (map changed_of regs.now) line.now right)) }
+    ensures { IfOk result (λ r. tree_of r ≡ operations.computed computation.operation computation.right computation.width
+        (spec.source (map changed_of regs.now) step.now.line.now computation.left)
+        (spec.source (map changed_of regs.now) step.now.line.now computation.right)) }
 {
-    let a = source(maker, alloc, regs, line, left)?;
-    let b = source(maker, alloc, regs, line, right)?;
-    computed(maker, alloc, operation, right, w, &a, &b)
+    let a = source(maker, step.alloc, regs, step.line, computation.left)?;
+    let b = source(maker, step.alloc, regs, step.line, computation.right)?;
+    computed(maker, step.alloc, computation, &a, &b)
 }
 
 /// Computes, and sets `rd`.
 fn compute(
     maker: &mut TermMaker,
-    alloc: Global,
     state: &mut SymState,
-    index: u32,
-    line: &Line,
-    operation: Operation,
-    w: Width,
-    left: Source,
-    right: Source,
+    step: &Step,
+    computation: Computation,
 ) -> Result<(), Memory>
     ensures { OnOk result (state_of state.new
-        ≡ spec.act (actions.Compute operation w left right) index None line.now
-        (state_of state.old)) }
+        ≡ spec.act (actions.Compute computation.operation computation.width computation.left computation.right) step.now.index None
+        step.now.line.now (state_of state.old)) }
 {
-    let term = value_of(maker, alloc, &state.regs, line, operation, w, left, right)?;
-    need_sources(&mut state.needs, index, &state.regs, line, left, right)?;
-    put(&mut state.regs, u64::from(line.rd), Some(term))
+    let term = value_of(maker, &state.regs, step, computation)?;
+    need_sources(
+        &mut state.needs,
+        step.index,
+        &state.regs,
+        step.line,
+        computation.left,
+        computation.right,
+    )?;
+    put(&mut state.regs, u64::from(step.line.rd), Some(term))
 }
 
 /// What stands at an address behind all stores so far.
@@ -105,20 +116,19 @@ fn loaded_in_64(
 /// Loads, and sets `rd`.
 fn load(
     maker: &mut TermMaker,
-    alloc: Global,
     state: &mut SymState,
-    index: u32,
-    line: &Line,
+    step: &Step,
     w: Width,
     extension: Extension,
 ) -> Result<(), Memory>
     ensures { OnOk result (state_of state.new
-        ≡ spec.act (actions.Load w extension) index None line.now (state_of state.old)) }
+        ≡ spec.act (actions.Load w extension) step.now.index None step.now.line.now
+        (state_of state.old)) }
 {
-    let at = address(maker, alloc, &state.regs, line)?;
-    let term = loaded_in_64(maker, alloc, &state.stores, w, extension, &at)?;
-    need_access(&mut state.needs, index, &state.regs, line, at, w)?;
-    put(&mut state.regs, u64::from(line.rd), Some(term))
+    let at = address(maker, step.alloc, &state.regs, step.line)?;
+    let term = loaded_in_64(maker, step.alloc, &state.stores, w, extension, &at)?;
+    need_access(&mut state.needs, step.index, &state.regs, step.line, at, w)?;
+    put(&mut state.regs, u64::from(step.line.rd), Some(term))
 }
 
 /// Puts a store behind those so far.
@@ -134,98 +144,91 @@ fn push_store(stores: &mut SymStores, address: Term, value: Term) -> Result<(), 
 }
 
 /// Stores `rt`.
-fn store(
-    maker: &mut TermMaker,
-    alloc: Global,
-    state: &mut SymState,
-    index: u32,
-    line: &Line,
-    w: Width,
-) -> Result<(), Memory>
+fn store(maker: &mut TermMaker, state: &mut SymState, step: &Step, w: Width) -> Result<(), Memory>
     ensures { OnOk result (state_of state.new
-        ≡ spec.act (actions.Store w) index None line.now (state_of state.old)) }
+        ≡ spec.act (actions.Store w) step.now.index None step.now.line.now (state_of state.old)) }
 {
-    let at = address(maker, alloc, &state.regs, line)?;
-    let value = stored(maker, alloc, &state.regs, line, w)?;
+    let at = address(maker, step.alloc, &state.regs, step.line)?;
+    let value = stored(maker, step.alloc, &state.regs, step.line, w)?;
     need_store(
         &mut state.needs,
-        index,
+        step.index,
         &state.regs,
-        line,
-        at.copy(alloc)?,
+        step.line,
+        at.copy(step.alloc)?,
         w,
     )?;
     push_store(&mut state.stores, at, value)
 }
 
 /// Sets `rd` to the address of the line's symbol.
-fn set_symbol_address(
-    alloc: Global,
-    state: &mut SymState,
-    index: u32,
-    line: &Line,
-) -> Result<(), Memory>
+fn set_symbol_address(state: &mut SymState, step: &Step) -> Result<(), Memory>
     ensures { OnOk result (state_of state.new
-        ≡ spec.act actions.SymbolAddress index None line.now (state_of state.old)) }
+        ≡ spec.act actions.SymbolAddress step.now.index None step.now.line.now
+        (state_of state.old)) }
 {
-    let term = own_symbol(alloc, &line.target)?;
-    need_symbol(alloc, &mut state.needs, index, line)?;
-    put(&mut state.regs, u64::from(line.rd), Some(term))
+    let term = own_symbol(step.alloc, &step.line.target)?;
+    need_symbol(step.alloc, &mut state.needs, step.index, step.line)?;
+    put(&mut state.regs, u64::from(step.line.rd), Some(term))
 }
 
 /// The condition of a branch.
 fn condition(
     maker: &mut TermMaker,
-    alloc: Global,
     regs: &SymRegs,
-    line: &Line,
+    step: &Step,
     comparison: Comparison,
     left: Source,
     right: Source,
 ) -> Result<Term, Memory>
     ensures { IfOk result (λ r. tree_of r
         ≡ comparisons.compared (operations.relation_of comparison) W64
-        (spec.source (map changed_of regs.now) line.now left)
-        (spec.source (map changed_of regs.now) line.now right)) }
+        (spec.source (map changed_of regs.now) step.now.line.now left)
+        (spec.source (map changed_of regs.now) step.now.line.now right)) }
 {
-    let a = source(maker, alloc, regs, line, left)?;
-    let b = source(maker, alloc, regs, line, right)?;
+    let a = source(maker, step.alloc, regs, step.line, left)?;
+    let b = source(maker, step.alloc, regs, step.line, right)?;
     compared(maker, comparison, a, b)
 }
 
 /// Jumps where the comparison holds.
 fn branch(
     maker: &mut TermMaker,
-    alloc: Global,
     state: &mut SymState,
-    index: u32,
-    uid: Option<u32>,
-    line: &Line,
+    step: &Step,
     comparison: Comparison,
     left: Source,
     right: Source,
 ) -> Result<(), Memory>
     ensures { OnOk result (state_of state.new
-        ≡ spec.act (actions.Branch comparison left right) index uid line.now (state_of state.old)) }
+        ≡ spec.act (actions.Branch comparison left right) step.now.index step.now.uid
+        step.now.line.now (state_of state.old)) }
 {
-    let condition = condition(maker, alloc, &state.regs, line, comparison, left, right)?;
-    need_sources(&mut state.needs, index, &state.regs, line, left, right)?;
+    let condition = condition(maker, &state.regs, step, comparison, left, right)?;
+    need_sources(
+        &mut state.needs,
+        step.index,
+        &state.regs,
+        step.line,
+        left,
+        right,
+    )?;
     state.jump = SymJump {
         condition,
-        target: uid,
+        target: step.uid,
     };
     Ok(())
 }
 
 /// Jumps.
 #[tactic(auto, using(crate::proofs::Needs::nothing_more))]
-fn jump(alloc: Global, state: &mut SymState, index: u32, uid: Option<u32>)
+fn jump(state: &mut SymState, step: &Step)
     ensures { state_of state.new
-        ≡ spec.jumps index uid (sums.constant W8 1) [] (state_of state.old) }
+        ≡ spec.jumps step.now.index step.now.uid (sums.constant W8 1) [] (state_of state.old) }
 {
     state.jump = SymJump {
-        condition: constant_term(alloc, Width::W8, 1),
-        target: uid,
+        condition: constant_term(step.alloc, Width::W8, 1),
+        target: step.uid,
     };
 }
 
@@ -279,49 +282,35 @@ fn call(
 }
 
 /// Calls the line's symbol.
-fn call_symbol(
-    maker: &mut TermMaker,
-    alloc: Global,
-    state: &mut SymState,
-    index: u32,
-    line: &Line,
-) -> Result<(), Memory>
+fn call_symbol(maker: &mut TermMaker, state: &mut SymState, step: &Step) -> Result<(), Memory>
     ensures { OnOk result (state_of state.new
-        ≡ spec.act actions.Call index None line.now (state_of state.old)) }
+        ≡ spec.act actions.Call step.now.index None step.now.line.now (state_of state.old)) }
 {
-    let target = own_symbol(alloc, &line.target)?;
-    need_symbol(alloc, &mut state.needs, index, line)?;
-    call(maker, alloc, state, target)
+    let target = own_symbol(step.alloc, &step.line.target)?;
+    need_symbol(step.alloc, &mut state.needs, step.index, step.line)?;
+    call(maker, step.alloc, state, target)
 }
 
 /// Calls the address that `rs` holds.
-fn call_register(
-    maker: &mut TermMaker,
-    alloc: Global,
-    state: &mut SymState,
-    index: u32,
-    line: &Line,
-) -> Result<(), Memory>
+fn call_register(maker: &mut TermMaker, state: &mut SymState, step: &Step) -> Result<(), Memory>
     ensures { OnOk result (state_of state.new
-        ≡ spec.act actions.CallRegister index None line.now (state_of state.old)) }
+        ≡ spec.act actions.CallRegister step.now.index None step.now.line.now
+        (state_of state.old)) }
 {
-    let target = register(maker, alloc, &state.regs, line.rs)?;
-    need_register(&mut state.needs, index, &state.regs, line.rs)?;
-    call(maker, alloc, state, target)
+    let target = register(maker, step.alloc, &state.regs, step.line.rs)?;
+    need_register(&mut state.needs, step.index, &state.regs, step.line.rs)?;
+    call(maker, step.alloc, state, target)
 }
 
-/// Does an action of the line at a place, whose label stands for a uid, if it stands for one.
+/// Does an action of a line.
 pub(crate) fn act(
     maker: &mut TermMaker,
-    alloc: Global,
     state: &mut SymState,
+    step: &Step,
     action: Action,
-    index: u32,
-    uid: Option<u32>,
-    line: &Line,
 ) -> Result<(), Memory>
     ensures { OnOk result (state_of state.new
-        ≡ spec.act action index uid line.now (state_of state.old)) }
+        ≡ spec.act action step.now.index step.now.uid step.now.line.now (state_of state.old)) }
 {
     match action {
         Action::Compute {
@@ -329,27 +318,29 @@ pub(crate) fn act(
             width,
             left,
             right,
-        } => compute(
-            maker, alloc, state, index, line, operation, width, left, right,
-        ),
-        Action::Load { width, extension } => {
-            load(maker, alloc, state, index, line, width, extension)
+        } => {
+            let computation = Computation {
+                operation,
+                width,
+                left,
+                right,
+            };
+            compute(maker, state, step, computation)
         }
-        Action::Store { width } => store(maker, alloc, state, index, line, width),
-        Action::SymbolAddress => set_symbol_address(alloc, state, index, line),
+        Action::Load { width, extension } => load(maker, state, step, width, extension),
+        Action::Store { width } => store(maker, state, step, width),
+        Action::SymbolAddress => set_symbol_address(state, step),
         Action::Branch {
             comparison,
             left,
             right,
-        } => branch(
-            maker, alloc, state, index, uid, line, comparison, left, right,
-        ),
+        } => branch(maker, state, step, comparison, left, right),
         Action::Jump => {
-            jump(alloc, state, index, uid);
+            jump(state, step);
             Ok(())
         }
-        Action::Call => call_symbol(maker, alloc, state, index, line),
-        Action::CallRegister => call_register(maker, alloc, state, index, line),
+        Action::Call => call_symbol(maker, state, step),
+        Action::CallRegister => call_register(maker, state, step),
         Action::Return { .. } => Ok(()),
     }
 }

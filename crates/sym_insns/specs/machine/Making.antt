@@ -8,17 +8,27 @@ use Rattle.rtl_step.specs.Value.{width_of}
 use Rattle.term_tree.specs.Tree.{Tree}
 use Rattle.term_tree.specs.View.{tree_of}
 use Rattle.term_mean.specs.Stores.{Store}
+use Rattle.sym_term.specs.Views.{store_of}
 use Rattle.sym_state.specs.State.{Changed, State, Need, Access, Arg, Call}
 use Rattle.sym_state.specs.Registers.{left_by_call}
-use Rattle.sym_state.specs.Views.{arg_of, call_of, need_of}
+use Rattle.sym_state.specs.Views.{arg_of, call_of, changed_of, need_of}
 use Rattle.sym_state.specs.declared.state.NeedOf.{NeedOf}
 use Rattle.sym_state.specs.declared.state.SymArg.{SymArg}
 use Rattle.sym_state.specs.declared.state.SymCall.{SymCall}
 use Rattle.sym_insns.specs.Value.{Made, Reading, made_of}
 use Rattle.sym_insns.specs.Effects as spec
+use Rattle.sym_insns.specs.declared.before.Before.{Before}
 use Rattle.sym_insns.specs.declared.effect.EffectOf.{EffectOf}
 use Rattle.sym_insns.specs.declared.effect.EffectOf.TheVariants.{Nothing, Sets, Unsets, Stores}
 use Rattle.sym_insns.specs.declared.effect.EffectedOf.{EffectedOf}
+
+-- the registers that were changed before an instruction
+abbrev pub regs_of : Before → List Changed
+regs_of before = map changed_of before.regs.now
+
+-- the stores before an instruction
+abbrev pub stores_of : Before → List Store
+stores_of before = map store_of before.stores.now
 
 -- a term with what it needs, and the needs before and after it was made
 pub record IsMade (before after : List NeedOf) (term : Tree) (made : Made) : Type 0 where

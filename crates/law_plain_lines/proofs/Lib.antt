@@ -12,3 +12,4 @@ pub mod Values
 pub mod ConstantValues
 pub mod TwoLines
 pub mod OneRegisterTwice
+pub mod Pairs

@@ -11,3 +11,5 @@ pub mod OneRegister
 pub mod Values
 pub mod ConstantValues
 pub mod TwoLines
+pub mod OneRegisterTwice
+pub mod Pairs

@@ -58,7 +58,7 @@ from_nought c m o a = node c m (pos 0) [] (with nought (with (register o a) none
 abbrev pub OneRow : Mode → Width → Width → (ℕ → Written) → (ℕ → Tree) → (ℕ → Tree) → Type 0
 OneRow m w o x t u = Row m w x t u (λ a. Register (suc a) o ∷ []) (λ a. is_set a ∷ [])
 
-row : (m : Mode) (w o : Width) (x : ℕ → Written) (t u : ℕ → Tree) → width_of m ≡ Some w → ((a : ℕ) → (made (x a) w).term ≡ t a) → ((a : ℕ) → (made (x a) w).needs ≡ Register (suc a) o ∷ []) →
+pub row : (m : Mode) (w o : Width) (x : ℕ → Written) (t u : ℕ → Tree) → width_of m ≡ Some w → ((a : ℕ) → (made (x a) w).term ≡ t a) → ((a : ℕ) → (made (x a) w).needs ≡ Register (suc a) o ∷ []) →
     ((a : ℕ) → IsSmall (t a)) → ((a : ℕ) → IsSmall (u a)) → ((a : ℕ) → trees.width_of (t a) ≡ w) → ((a : ℕ) → trees.width_of (u a) ≡ W64) → ((a : ℕ) → low_bits w (u a) ≡ t a) → OneRow m w o x t u
 row m w o x t u wide term needs insn_small line_small insn_wide line_wide same = record {
   wide = wide;

@@ -59,6 +59,12 @@ two_covered a b v w more =
     let had = needs_at 0 (Register a v ∷ Register b w ∷ more) in
     both (is_covered had (Register a W8)) _ (or_left _ _ (has_bits a v)) (both (is_covered had (Register b W8)) true (or_right _ _ (or_left _ _ (has_bits b w))) refl)
 
+-- the needs of the line in the other order
+pub turned_covered : (a b : ℕ) (v w : Width) (more : List Need) → AreCovered (needs_at 0 (Register b w ∷ Register a v ∷ more)) (needs_at 0 (Register a W8 ∷ Register b W8 ∷ []))
+turned_covered a b v w more =
+    let had = needs_at 0 (Register b w ∷ Register a v ∷ more) in
+    both (is_covered had (Register a W8)) _ (or_right _ _ (or_left _ _ (has_bits a v))) (both (is_covered had (Register b W8)) true (or_left _ _ (has_bits b w)) refl)
+
 pub one_covered : (a : ℕ) (w : Width) (more : List Need) → AreCovered (needs_at 0 (Register a w ∷ more)) (needs_at 0 (Register a W8 ∷ []))
 one_covered a w more = both (is_covered (needs_at 0 (Register a w ∷ more)) (Register a W8)) true (or_left _ _ (has_bits a w)) refl
 

@@ -23,7 +23,14 @@ use Rattle.sym_lines.specs.Compute.{computed}
 use Rattle.sym_diff.proofs.NumberLaws.{itself}
 use Rattle.law_plain_terms.proofs.Back.{low_same}
 use Rattle.law_plain_lines.specs.Frames.{sets}
-use Rattle.law_plain_lines.proofs.Rows.{line_sets}
+use Rattle.law_plain_lines.proofs.Rows.{small_state}
+use Rattle.law_plain_lines.proofs.OneLine.{Row, Sets, lines_equated}
+use Rattle.rtx_open.proofs.Expressions.{Written}
+use Rattle.rtx_tree.specs.declared.code.Mode.{Mode}
+use Rattle.rtx_tree.specs.declared.function.Insn.{Insn}
+use Rattle.equate.specs.Side.{Lines}
+use Rattle.equate.specs.Equated.{Equated}
+use Rattle.law_plain_terms.specs.Rows.{IsSmall}
 
 -- ---- what was set is read, needs nothing more, and is set again
 
@@ -110,3 +117,14 @@ two_run number l m a b first second is_a is_b small_a small_b =
     (ap (λ s. ran None (if is_within s then (let t = lines.after number 1 m s in if is_within t then Some t else None) else None)) is_a ∙
     (ap (λ x. ran None (if x then (let t = lines.after number 1 m a in if is_within t then Some t else None) else None)) small_a ∙
     (ap (λ t. ran None (if is_within t then Some t else None)) is_b ∙ ap (λ x. ran None (if x then Some b else None)) small_b))))
+
+-- ---- a row whose text has two lines
+
+pub pair_equated : {P : Type 0} (m : Mode) (w : Width) (x : P → Written) (t u : P → Tree) (had asked : P → List Need) → Row m w x t u had asked →
+    (number : ℕ) (live : List ℕ) (i : Insn) (l k : Line) (n : ℕ) (p : P) (first : Tree) → Sets i m n (x p) → lines.fits_action (action_of l) (k ∷ []) ≡ true → lines.fits_action (action_of k) [] ≡ true →
+    lines.after number 0 l start ≡ sets (suc n) first (needs_at 0 (asked p)) → lines.after number 1 k (sets (suc n) first (needs_at 0 (asked p))) ≡ sets (suc n) (u p) (needs_at 0 (asked p)) →
+    IsSmall first → Equated (i ∷ []) (Lines number (l ∷ k ∷ [])) live
+pair_equated m w x t u had asked row number live i l k n p first s fits_one fits_two one two small =
+    lines_equated m w x t u had asked row number live i (l ∷ k ∷ []) n p s
+    (two_run number l k (sets (suc n) first (needs_at 0 (asked p))) (sets (suc n) (u p) (needs_at 0 (asked p))) fits_one fits_two one two
+    (small_state (suc n) first (needs_at 0 (asked p)) small (row.small_asked p)) (small_state (suc n) (u p) (needs_at 0 (asked p)) (row.line_small p) (row.small_asked p)))

@@ -52,18 +52,18 @@ row : (m : Mode) (w : Width) (x : Two → Written) (t u : Two → Tree) → widt
     ((p : Two) → (made (x p) w).term ≡ t p) → ((p : Two) → (made (x p) w).needs ≡ bits W64 W64 p []) →
     ((p : Two) → IsSmall (t p)) → ((p : Two) → IsSmall (u p)) → ((p : Two) → trees.width_of (t p) ≡ w) → ((p : Two) → trees.width_of (u p) ≡ W64) → ((p : Two) → low_bits w (u p) ≡ t p) → PairRow m w x t u
 row m w x t u wide term needs insn_small line_small insn_wide line_wide same = record {
-    wide = wide;
-    term = term;
-    needs = needs;
-    covered = λ p. two_covered (suc p.0) (suc p.1) W64 W64 [];
-    small_needs = λ p. refl;
-    small_asked = λ p. refl;
-    insn_small = insn_small;
-    line_small = line_small;
-    insn_wide = insn_wide;
-    line_wide = line_wide;
-    same = same;
-  }
+  wide = wide;
+  term = term;
+  needs = needs;
+  covered = λ p. two_covered (suc p.0) (suc p.1) W64 W64 [];
+  small_needs = λ p. refl;
+  small_asked = λ p. refl;
+  insn_small = insn_small;
+  line_small = line_small;
+  insn_wide = insn_wide;
+  line_wide = line_wide;
+  same = same;
+}
 
 -- ---- not less: the exclusive or of the truth with 1
 

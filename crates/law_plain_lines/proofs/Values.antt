@@ -148,8 +148,3 @@ sltu_di = row DI W64 (compared code.Ltu DI)
     (λ p. (small_truths.less Zero p.0 p.1).0) (λ p. (small_truths.less Zero p.0 p.1).0)
     (λ p. width-built [] heads.Zext W64 0 [] (less_than Zero W64 (whole p.0) (whole p.1) ∷ [])) (λ p. width-built [] heads.Zext W64 0 [] (less_than Zero W64 (whole p.0) (whole p.1) ∷ []))
     (λ p. comparisons.sltu_64 p.0 p.1)
-
--- the greater of two: the line has the registers the other way round
-
-abbrev pub turned : Code → Mode → Two → Written
-turned c m p = node c m (pos 0) [] (with (register DI p.1) (with (register DI p.0) none))

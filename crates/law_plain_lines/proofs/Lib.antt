@@ -13,3 +13,5 @@ pub mod ConstantValues
 pub mod TwoLines
 pub mod OneRegisterTwice
 pub mod Pairs
+pub mod ConstantPairs
+pub mod Constants

@@ -68,10 +68,10 @@ row m w x t u wide term needs insn_small line_small insn_wide line_wide same = r
 
 -- ---- not less: the exclusive or of the truth with 1
 
-wide_reversed : (t : Tree) → trees.width_of (reversed t) ≡ W64
+pub wide_reversed : (t : Tree) → trees.width_of (reversed t) ≡ W64
 wide_reversed t = width-built [] heads.Xor W64 0 [] (low_bits W64 t ∷ constant W64 1 ∷ [])
 
-low_reversed : (t : Tree) → low_bits W64 (reversed t) ≡ reversed t
+pub low_reversed : (t : Tree) → low_bits W64 (reversed t) ≡ reversed t
 low_reversed t = low_same W64 (reversed t) (wide_reversed t)
 
 reversed_is : (e : Extension) (a b : ℕ) → reversed (one [] heads.Zext W64 (less_than e W64 (whole a) (whole b))) ≡ one [] heads.Zext W64 (opposite (less_than e W64 (whole a) (whole b)))

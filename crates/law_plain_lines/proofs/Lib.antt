@@ -15,3 +15,4 @@ pub mod OneRegisterTwice
 pub mod Pairs
 pub mod ConstantPairs
 pub mod Constants
+pub mod Loads

@@ -23,7 +23,7 @@ use Rattle.term_tree.specs.Small.{is_small}
 use Rattle.term_mean.specs.Compared.{low_bits}
 use Rattle.rtl_func.specs.Modes.{shapes_agree}
 use Rattle.reg_uses.specs.Uses.{is_return}
-use Rattle.sym_state.specs.State.{State, Need, NeedAt, Register, start, is_within, is_small_need, needs_at}
+use Rattle.sym_state.specs.State.{State, Need, NeedAt, Register, Access, start, is_within, is_small_need, needs_at}
 use Rattle.sym_insns.specs.Shape.{is_shaped, fits_kind}
 use Rattle.equate.specs.Side.{is_jump, is_one_return}
 use Rattle.sym_insns.specs.Effects as effects
@@ -33,6 +33,7 @@ use Rattle.sym_insns.specs.Value.{Made}
 use Rattle.sym_lines.specs.Run as lines
 use Rattle.sym_lines.specs.Step as step
 use Rattle.sym_diff.specs.Compared.{covers, is_covered}
+use Rattle.sym_diff.proofs.sym_term.Steps.{same-is}
 use Rattle.sym_diff.proofs.NumberLaws.{itself, or_left, or_right}
 use Rattle.law_plain_lines.specs.Frames.{IsKnown, AreCovered, sets}
 use Rattle.rtx_open.proofs.Expressions.{Written, rtx}
@@ -40,7 +41,7 @@ use Rattle.law_plain_lines.proofs.Effects.{register, set_of, made, sets_register
 
 -- ---- needs: a line needs that a register is set, an instruction so many bits of it
 
-both : (p q : Bool) → p ≡ true → q ≡ true → (p && q) ≡ true
+pub both : (p q : Bool) → p ≡ true → q ≡ true → (p && q) ≡ true
 both true true h g = refl
 both true false h g = g
 both false q h g = h
@@ -67,6 +68,12 @@ turned_covered a b v w more =
 
 pub one_covered : (a : ℕ) (w : Width) (more : List Need) → AreCovered (needs_at 0 (Register a w ∷ more)) (needs_at 0 (Register a W8 ∷ []))
 one_covered a w more = both (is_covered (needs_at 0 (Register a w ∷ more)) (Register a W8)) true (or_left _ _ (has_bits a w)) refl
+
+-- and that so many bits stand at an address
+pub access_covered : (a : ℕ) (at : Tree) (v w : Width) → AreCovered (needs_at 0 (Register a v ∷ Access at w ∷ [])) (needs_at 0 (Register a W8 ∷ Access at w ∷ []))
+access_covered a at v w =
+    let had = needs_at 0 (Register a v ∷ Access at w ∷ []) in
+    both (is_covered had (Register a W8)) _ (or_left _ _ (has_bits a v)) (both (is_covered had (Access at w)) true (or_left (covers (Access at w) (Access at w)) false (both _ _ (itself (bits_of w)) ((same-is at at).1 refl))) refl)
 
 -- ---- what is known
 

@@ -16,3 +16,4 @@ pub mod Pairs
 pub mod ConstantPairs
 pub mod Constants
 pub mod Loads
+pub mod Stores

@@ -70,9 +70,13 @@ line_loads e w number l n p does rd rs imm = record {
 
 -- ---- the rows, by what is particular to each: so many bits are loaded
 
+-- (plus:DI REGISTER NUMBER)
+abbrev pub address_of : With → Written
+address_of p = node code.Plus DI (pos 0) [] (with (register DI p.0) (with (number p.1) none))
+
 -- (mem:MODE (plus:DI REGISTER NUMBER))
 abbrev pub memory_of : Mode → With → Written
-memory_of m p = node code.Mem m (pos 0) [] (with (node code.Plus DI (pos 0) [] (with (register DI p.0) (with (number p.1) none))) none)
+memory_of m p = node code.Mem m (pos 0) [] (with (address_of p) none)
 
 abbrev pub extends : Code → Mode → Mode → With → Written
 extends c m o p = node c m (pos 0) [] (with (memory_of o p) none)
@@ -81,7 +85,7 @@ abbrev pub LoadRow : Mode → Width → (With → Written) → (With → Tree) �
 LoadRow m w x t e v = Row m w x t (λ p. loads e v (address p)) (λ p. Register (suc p.0) W64 ∷ Access (address p) v ∷ []) (λ p. is_set p.0 ∷ Access (address p) v ∷ [])
 
 -- what holds of the line's address holds of the instruction's
-at_address : (P : Tree → Type 0) (p : With) → P (line_address p.0 (word p)) → P (address p)
+pub at_address : (P : Tree → Type 0) (p : With) → P (line_address p.0 (word p)) → P (address p)
 at_address P p h = subst P (same_address p.0 (word p)) h
 
 small_access : (a : ℕ) (v w : Width) (at : Tree) → IsSmall at → AreSmallNeeds (Register a v ∷ Access at w ∷ [])

@@ -52,7 +52,7 @@ reaches W16 = refl
 reaches W32 = refl
 reaches W64 = refl
 
-has_bits : (reg : ℕ) (w : Width) → covers (Register reg w) (Register reg W8) ≡ true
+pub has_bits : (reg : ℕ) (w : Width) → covers (Register reg w) (Register reg W8) ≡ true
 has_bits reg w = both (reg == reg) (nat_le 8 (bits_of w)) (itself reg) (reaches w)
 
 pub two_covered : (a b : ℕ) (v w : Width) (more : List Need) → AreCovered (needs_at 0 (Register a v ∷ Register b w ∷ more)) (needs_at 0 (Register a W8 ∷ Register b W8 ∷ []))
@@ -68,6 +68,9 @@ turned_covered a b v w more =
 
 pub one_covered : (a : ℕ) (w : Width) (more : List Need) → AreCovered (needs_at 0 (Register a w ∷ more)) (needs_at 0 (Register a W8 ∷ []))
 one_covered a w more = both (is_covered (needs_at 0 (Register a w ∷ more)) (Register a W8)) true (or_left _ _ (has_bits a w)) refl
+
+pub access_has : (at : Tree) (w : Width) → covers (Access at w) (Access at w) ≡ true
+access_has at w = both _ _ (itself (bits_of w)) ((same-is at at).1 refl)
 
 -- and that so many bits stand at an address
 pub access_covered : (a : ℕ) (at : Tree) (v w : Width) → AreCovered (needs_at 0 (Register a v ∷ Access at w ∷ [])) (needs_at 0 (Register a W8 ∷ Access at w ∷ []))

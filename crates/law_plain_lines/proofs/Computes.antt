@@ -1,17 +1,14 @@
 -- What a line that computes leaves in its register, by what it reads.
-use Rattle.std.proofs.Common.{◌≡◌, ℕ, suc, List, [], ◌∷◌, ◌++◌, Option, Some, None, refl, ◌∙◌, ap}
+use Rattle.std.proofs.Common.{◌≡◌, ℕ, suc, [], ◌∷◌, ◌++◌, Some, ◌∙◌, ap}
 use Rattle.std.specs.Prelude.{ℤ}
 use Rattle.std.specs.Int.{cast_unsigned, w64}
 use Rattle.bits64.specs.declared.Width.{Width}
 use Rattle.bits64.specs.declared.Width.TheVariants.{W8, W64}
 use Rattle.rv_text.specs.Lines.{action_of}
 use Rattle.rv_text.specs.declared.line.Line.{Line}
-use Rattle.rv_text.specs.declared.action.Action.{Action}
 use Rattle.rv_text.specs.declared.action.Action.TheVariants.{Compute}
 use Rattle.rv_text.specs.declared.action.Operation.{Operation}
-use Rattle.rv_text.specs.declared.action.Source.{Source}
 use Rattle.rv_text.specs.declared.action.Source.TheVariants.{First, Second, Immediate, Constant}
-use Rattle.term_tree.specs.Tree.{Tree}
 use Rattle.term_mean.specs.Sums.{constant}
 use Rattle.sym_state.specs.State.{State, Need, Register, start, needs_at}
 use Rattle.sym_state.specs.Registers.{read, read_needs, put}

@@ -1,37 +1,28 @@
 -- Rows of a register and a constant whose text has two lines: not less.
-use Rattle.std.proofs.Common.{◌≡◌, ℕ, suc, pos, true, List, [], ◌∷◌, Option, Some, refl, sym, subst, ◌∙◌}
+use Rattle.std.proofs.Common.{◌≡◌, ℕ, suc, [], ◌∷◌, Some, refl, sym, subst, ◌∙◌}
 use Rattle.bits64.specs.declared.Width.{Width}
-use Rattle.bits64.specs.declared.Width.TheVariants.{W8, W16, W32, W64}
-use Rattle.rtx_tree.specs.declared.code.Code.{Code}
+use Rattle.bits64.specs.declared.Width.TheVariants.{W32, W64}
 use Rattle.rtx_tree.specs.declared.code.Code.TheVariants as code
 use Rattle.rtx_tree.specs.declared.code.Mode.{Mode}
-use Rattle.rtx_tree.specs.declared.code.Mode.TheVariants.{Void, QI, HI, SI, DI}
+use Rattle.rtx_tree.specs.declared.code.Mode.TheVariants.{SI, DI}
 use Rattle.rtl_step.specs.Value.{width_of}
 use Rattle.rv_text.specs.declared.action.Operation.TheVariants as operation
-use Rattle.rv_text.specs.declared.action.Source.TheVariants.{First, Second, Immediate, Constant}
-use Rattle.term_tree.specs.declared.head.Head.{Head}
 use Rattle.term_tree.specs.declared.head.Head.TheVariants as heads
-use Rattle.term_tree.specs.declared.head.Extension.{Extension}
 use Rattle.term_tree.specs.declared.head.Extension.TheVariants.{Zero, Sign}
 use Rattle.term_tree.specs.Tree as trees
 use Rattle.term_tree.specs.Tree.{Tree}
-use Rattle.term_mean.specs.Sums.{constant, summed}
-use Rattle.term_mean.specs.Less.{less_than, less_test}
-use Rattle.term_mean.specs.Zero.{zero_test, equals_zero}
+use Rattle.term_mean.specs.Sums.{constant}
+use Rattle.term_mean.specs.Less.{less_than}
 use Rattle.term_mean.specs.Truths.{opposite}
-use Rattle.term_mean.specs.Masks.{cut_8, cut_16, cut_32, made_8, made_32, made_64}
 use Rattle.term_mean.specs.Compared.{low_bits}
-use Rattle.term_mean.proofs.Widths.{width-summed}
 use Rattle.term_mean.proofs.NormalWidths.{width-built}
-use Rattle.sym_state.specs.State.{Need, Register}
-use Rattle.sym_state.specs.Makers.{one, minus_one, truth_in}
-use Rattle.sym_insns.specs.Value.{unary, binary, converted}
-use Rattle.sym_lines.specs.Compute.{computed}
-use Rattle.rtx_open.proofs.Expressions.{Written, node, none, with}
-use Rattle.law_plain_terms.specs.Rows.{part, whole, truth, reversed, line, IsSmall}
+use Rattle.sym_state.specs.State.{Register}
+use Rattle.sym_state.specs.Makers.{one}
+use Rattle.rtx_open.proofs.Expressions.{Written}
+use Rattle.law_plain_terms.specs.Rows.{whole, truth, reversed, IsSmall}
 use Rattle.law_plain_terms.proofs.LessConstant as less
 use Rattle.law_plain_terms.proofs.SmallTruths as small_truths
-use Rattle.law_plain_lines.proofs.Effects.{register, made}
+use Rattle.law_plain_lines.proofs.Effects.{made}
 use Rattle.law_plain_lines.proofs.Rows.{one_covered}
 use Rattle.law_plain_lines.proofs.OneLine.{Row}
 use Rattle.law_plain_lines.proofs.Computes.{is_set}

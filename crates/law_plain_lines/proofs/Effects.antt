@@ -1,19 +1,17 @@
 -- What an instruction does that sets a register: its pattern is written out.
-use Rattle.std.proofs.Common.{◌≡◌, ℕ, zero, suc, pos, List, [], ◌∷◌, ◌++◌, Option, Some, None, refl, sym, ◌∙◌, ap}
+use Rattle.std.proofs.Common.{◌≡◌, ℕ, suc, pos, [], ◌∷◌, ◌++◌, Some, ◌∙◌, ap}
 use Rattle.bits64.specs.declared.Width.{Width}
 use Rattle.bits64.specs.declared.Width.TheVariants.{W64}
 use Rattle.sym_state.specs.State.{Access}
-use Rattle.rtx_tree.specs.declared.code.Code.{Code}
 use Rattle.rtx_tree.specs.declared.code.Code.TheVariants.{Set, Reg, Mem}
 use Rattle.rtx_tree.specs.declared.code.Mode.{Mode}
 use Rattle.rtx_tree.specs.declared.code.Mode.TheVariants.{Void}
-use Rattle.rtx_tree.specs.declared.tree.Rtx.{Rtx, out-Rtx}
 use Rattle.rtl_step.specs.Value.{width_of}
-use Rattle.sym_insns.specs.Value.{Made, Reading, reading_step, made_of}
+use Rattle.sym_insns.specs.Value.{Made, reading_step, made_of}
 use Rattle.sym_insns.specs.Effects as effects
 use Rattle.sym_insns.specs.Effects.{effects_of, effects_by, effect_by, set_in, set_place, set_register, set_memory}
-use Rattle.rtl_step.specs.Effect.{register_of, register_by, address_of, address_part}
-use Rattle.rtx_open.proofs.Expressions.{Written, node, none, with, any, rtx, outside, outside_is, gathered, gathers}
+use Rattle.rtl_step.specs.Effect.{register_by, address_part}
+use Rattle.rtx_open.proofs.Expressions.{Written, node, none, with, rtx, outside_is, gathered, gathers}
 
 -- (reg:MODE NUMBER), but register 0
 abbrev pub register : Mode → ℕ → Written

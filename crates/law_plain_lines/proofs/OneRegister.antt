@@ -1,7 +1,6 @@
 -- Rows of one register: the negative, the complement, extensions and truncations by one line, and
 -- tests for 0; and rows of register zero and another.
-use Rattle.std.proofs.Common.{◌≡◌, ℕ, suc, pos, negsuc, true, List, [], ◌∷◌, ◌++◌, ◌-◌, ◌^◌, Option, Some, refl}
-use Rattle.std.specs.Prelude.{ℤ}
+use Rattle.std.proofs.Common.{◌≡◌, ℕ, suc, pos, negsuc, [], ◌∷◌, ◌-◌, ◌^◌, Some, refl}
 use Rattle.bits64.specs.declared.Width.{Width}
 use Rattle.bits64.specs.declared.Width.TheVariants.{W8, W16, W32, W64}
 use Rattle.rtx_tree.specs.declared.code.Code.{Code}
@@ -9,24 +8,16 @@ use Rattle.rtx_tree.specs.declared.code.Code.TheVariants as code
 use Rattle.rtx_tree.specs.declared.code.Mode.{Mode}
 use Rattle.rtx_tree.specs.declared.code.Mode.TheVariants.{Void, QI, HI, SI, DI}
 use Rattle.rtl_step.specs.Value.{width_of}
-use Rattle.rv_text.specs.declared.action.Operation.{Operation}
 use Rattle.rv_text.specs.declared.action.Operation.TheVariants as operation
 use Rattle.rv_text.specs.declared.action.Source.TheVariants.{First, Second, Immediate, Constant}
-use Rattle.term_tree.specs.declared.head.Head.{Head}
-use Rattle.term_tree.specs.declared.head.Head.TheVariants as heads
-use Rattle.term_tree.specs.declared.head.Extension.TheVariants.{Zero, Sign}
 use Rattle.term_tree.specs.Tree as trees
 use Rattle.term_tree.specs.Tree.{Tree}
-use Rattle.term_mean.specs.Sums.{constant, summed}
-use Rattle.term_mean.specs.Less.{less_than, less_test}
-use Rattle.term_mean.specs.Zero.{zero_test, equals_zero}
-use Rattle.term_mean.specs.Truths.{opposite}
+use Rattle.term_mean.specs.Sums.{constant}
+use Rattle.term_mean.specs.Less.{less_test}
+use Rattle.term_mean.specs.Zero.{zero_test}
 use Rattle.term_mean.specs.Masks.{cut_8, cut_16, cut_32, made_8, made_32, made_64}
 use Rattle.term_mean.specs.Compared.{low_bits}
-use Rattle.term_mean.proofs.Widths.{width-summed}
-use Rattle.term_mean.proofs.NormalWidths.{width-built}
-use Rattle.sym_state.specs.State.{Need, Register}
-use Rattle.sym_state.specs.Makers.{one, minus_one}
+use Rattle.sym_state.specs.State.{Register}
 use Rattle.sym_insns.specs.Value.{unary, binary, converted}
 use Rattle.sym_lines.specs.Compute.{computed}
 use Rattle.rtx_open.proofs.Expressions.{Written, node, none, with}

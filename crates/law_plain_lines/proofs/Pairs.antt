@@ -1,36 +1,32 @@
 -- Rows of two registers whose text has two lines: not less, and equality; and the greater of two, whose
 -- line has the registers the other way round.
-use Rattle.std.proofs.Common.{◌≡◌, ℕ, suc, pos, true, List, [], ◌∷◌, Option, Some, refl, sym, subst, ◌∙◌}
+use Rattle.std.proofs.Common.{◌≡◌, ℕ, suc, pos, [], ◌∷◌, Some, refl, sym, subst, ◌∙◌}
 use Rattle.bits64.specs.declared.Width.{Width}
-use Rattle.bits64.specs.declared.Width.TheVariants.{W8, W16, W32, W64}
+use Rattle.bits64.specs.declared.Width.TheVariants.{W32, W64}
 use Rattle.rtx_tree.specs.declared.code.Code.{Code}
 use Rattle.rtx_tree.specs.declared.code.Code.TheVariants as code
 use Rattle.rtx_tree.specs.declared.code.Mode.{Mode}
-use Rattle.rtx_tree.specs.declared.code.Mode.TheVariants.{Void, QI, HI, SI, DI}
+use Rattle.rtx_tree.specs.declared.code.Mode.TheVariants.{SI, DI}
 use Rattle.rtl_step.specs.Value.{width_of}
-use Rattle.rv_text.specs.declared.action.Operation.{Operation}
 use Rattle.rv_text.specs.declared.action.Operation.TheVariants as operation
-use Rattle.rv_text.specs.declared.action.Source.TheVariants.{First, Second, Immediate, Constant}
-use Rattle.term_tree.specs.declared.head.Head.{Head}
+use Rattle.rv_text.specs.declared.action.Source.TheVariants.{First, Constant}
 use Rattle.term_tree.specs.declared.head.Head.TheVariants as heads
 use Rattle.term_tree.specs.declared.head.Extension.{Extension}
 use Rattle.term_tree.specs.declared.head.Extension.TheVariants.{Zero, Sign}
 use Rattle.term_tree.specs.Tree as trees
 use Rattle.term_tree.specs.Tree.{Tree}
 use Rattle.term_mean.specs.Sums.{constant, summed}
-use Rattle.term_mean.specs.Less.{less_than, less_test}
-use Rattle.term_mean.specs.Zero.{zero_test, equals_zero}
+use Rattle.term_mean.specs.Less.{less_than}
+use Rattle.term_mean.specs.Zero.{equals_zero}
 use Rattle.term_mean.specs.Truths.{opposite}
-use Rattle.term_mean.specs.Masks.{cut_8, cut_16, cut_32, made_8, made_32, made_64}
 use Rattle.term_mean.specs.Compared.{low_bits}
 use Rattle.term_mean.proofs.Widths.{width-summed}
 use Rattle.term_mean.proofs.NormalWidths.{width-built}
-use Rattle.sym_state.specs.State.{Need, Register}
-use Rattle.sym_state.specs.Makers.{one, minus_one, truth_in}
-use Rattle.sym_insns.specs.Value.{unary, binary, converted}
+use Rattle.sym_state.specs.State.{Register}
+use Rattle.sym_state.specs.Makers.{one, minus_one}
 use Rattle.sym_lines.specs.Compute.{computed}
 use Rattle.rtx_open.proofs.Expressions.{Written, node, none, with}
-use Rattle.law_plain_terms.specs.Rows.{part, whole, truth, reversed, line, IsSmall}
+use Rattle.law_plain_terms.specs.Rows.{whole, truth, reversed, line, IsSmall}
 use Rattle.law_plain_terms.proofs.Back.{low_same}
 use Rattle.law_plain_terms.proofs.Comparisons as comparisons
 use Rattle.law_plain_terms.proofs.Equal as equal

@@ -1,21 +1,16 @@
 -- One line that computes on two registers, and the instruction that sets the same.
-use Rattle.std.proofs.Common.{◌≡◌, ℕ, zero, suc, pos, ◌==◌, nat_le, Bool, true, false, ◌&&◌, ◌||◌, if◌then◌else◌, List, [], ◌∷◌, Option, Some, None, refl, sym, ◌∙◌, ap, subst}
-use Rattle.std.specs.List.{list_any, list_all}
+use Rattle.std.proofs.Common.{◌≡◌, ℕ, suc, ◌==◌, nat_le, Bool, true, false, ◌&&◌, List, [], ◌∷◌, Some, refl, sym, ◌∙◌, ap, subst}
+use Rattle.std.specs.List.{list_all}
 use Rattle.bits64.specs.declared.Width.{Width}
 use Rattle.bits64.specs.declared.Width.TheVariants.{W8, W16, W32, W64}
 use Rattle.bits64.specs.Words.{bits_of}
-use Rattle.rtx_tree.specs.declared.code.Code.{Code}
 use Rattle.rtx_tree.specs.declared.code.Mode.{Mode}
 use Rattle.rtx_tree.specs.declared.function.Insn.{Insn}
-use Rattle.rtx_tree.specs.declared.function.Kind.{Kind}
 use Rattle.rtx_tree.specs.declared.function.Kind.TheVariants.{Plain}
 use Rattle.rtl_step.specs.Value.{width_of}
 use Rattle.rv_text.specs.Lines.{action_of}
 use Rattle.rv_text.specs.declared.line.Line.{Line}
 use Rattle.rv_text.specs.declared.action.Action.{Action}
-use Rattle.rv_text.specs.declared.action.Action.TheVariants as action
-use Rattle.rv_text.specs.declared.action.Operation.{Operation}
-use Rattle.rv_text.specs.declared.action.Source.TheVariants.{First, Second}
 use Rattle.term_tree.specs.Tree as trees
 use Rattle.term_tree.specs.Tree.{Tree}
 use Rattle.term_tree.specs.Form.{narrower}
@@ -23,13 +18,11 @@ use Rattle.term_tree.specs.Small.{is_small}
 use Rattle.term_mean.specs.Compared.{low_bits}
 use Rattle.rtl_func.specs.Modes.{shapes_agree}
 use Rattle.reg_uses.specs.Uses.{is_return}
-use Rattle.sym_state.specs.State.{State, Need, NeedAt, Register, Access, start, is_within, is_small_need, needs_at}
+use Rattle.sym_state.specs.State.{Need, NeedAt, Register, Access, start, is_within, is_small_need, needs_at}
 use Rattle.sym_insns.specs.Shape.{is_shaped, fits_kind}
 use Rattle.equate.specs.Side.{is_jump, is_one_return}
-use Rattle.sym_insns.specs.Effects as effects
 use Rattle.sym_insns.specs.Effects.{effects_of, make_all}
 use Rattle.sym_insns.specs.Run as insns
-use Rattle.sym_insns.specs.Value.{Made}
 use Rattle.sym_lines.specs.Run as lines
 use Rattle.sym_lines.specs.Step as step
 use Rattle.sym_diff.specs.Compared.{covers, is_covered}

@@ -1,5 +1,5 @@
 -- Two lines, of which the second computes on what the first has set, and sets it again.
-use Rattle.std.proofs.Common.{◌≡◌, ℕ, zero, suc, ◌==◌, nat_lt, Bool, true, false, if◌then◌else◌, List, [], ◌∷◌, ◌++◌, Option, Some, None, refl, sym, ◌∙◌, ap, subst, arith}
+use Rattle.std.proofs.Common.{◌≡◌, ℕ, suc, ◌==◌, nat_lt, true, false, if◌then◌else◌, List, [], ◌∷◌, ◌++◌, Some, None, refl, ◌∙◌, ap, arith}
 use Rattle.std.proofs.lemmas.Bool.Decides.{nat_tests}
 use Rattle.std.specs.Prelude.{ℤ}
 use Rattle.std.specs.Int.{cast_unsigned, w64}
@@ -7,17 +7,15 @@ use Rattle.bits64.specs.declared.Width.{Width}
 use Rattle.bits64.specs.declared.Width.TheVariants.{W8, W64}
 use Rattle.rv_text.specs.Lines.{action_of}
 use Rattle.rv_text.specs.declared.line.Line.{Line}
-use Rattle.rv_text.specs.declared.action.Action.{Action}
 use Rattle.rv_text.specs.declared.action.Action.TheVariants.{Compute}
 use Rattle.rv_text.specs.declared.action.Operation.{Operation}
-use Rattle.rv_text.specs.declared.action.Source.{Source}
 use Rattle.rv_text.specs.declared.action.Source.TheVariants.{First, Immediate, Constant}
 use Rattle.term_tree.specs.Tree.{Tree, width_of}
 use Rattle.term_tree.specs.Form.{narrower}
 use Rattle.term_mean.specs.Sums.{constant}
 use Rattle.term_mean.specs.Compared.{low_bits}
 use Rattle.sym_state.specs.State.{State, Changed, Need, NeedAt, Lost, Runs, start, is_within, needs_at, own_register, ran}
-use Rattle.sym_state.specs.Registers.{changed, held, read, read_needs, term_held, need_of, put, placed}
+use Rattle.sym_state.specs.Registers.{changed, read, read_needs, term_held, need_of, put, placed}
 use Rattle.sym_lines.specs.Run as lines
 use Rattle.sym_lines.specs.Compute.{computed}
 use Rattle.sym_diff.proofs.NumberLaws.{itself}

@@ -1,6 +1,6 @@
 -- Rows of an operation on two registers: sums, differences, products, quotients, remainders, operators
 -- on bits, and shifts by a register.
-use Rattle.std.proofs.Common.{◌≡◌, ℕ, suc, pos, true, List, [], ◌∷◌, ◌++◌, Option, Some, refl}
+use Rattle.std.proofs.Common.{◌≡◌, ℕ, suc, pos, List, [], ◌∷◌, Some, refl}
 use Rattle.bits64.specs.declared.Width.{Width}
 use Rattle.bits64.specs.declared.Width.TheVariants.{W8, W32, W64}
 use Rattle.rtx_tree.specs.declared.code.Code.{Code}
@@ -15,7 +15,7 @@ use Rattle.term_tree.specs.declared.head.Head.TheVariants as heads
 use Rattle.term_tree.specs.Tree as trees
 use Rattle.term_tree.specs.Tree.{Tree}
 use Rattle.term_mean.specs.Sums.{summed}
-use Rattle.term_mean.specs.Masks.{cut_8, cut_32, made_32, made_64}
+use Rattle.term_mean.specs.Masks.{cut_8, cut_32}
 use Rattle.term_mean.specs.Compared.{low_bits}
 use Rattle.term_mean.proofs.Widths.{width-summed}
 use Rattle.term_mean.proofs.NormalWidths.{width-built}

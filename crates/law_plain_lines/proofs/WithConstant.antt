@@ -1,9 +1,9 @@
 -- Rows of an operation on a register and a constant: sums, operators on bits, and shifts.
-use Rattle.std.proofs.Common.{◌≡◌, ℕ, suc, pos, true, List, [], ◌∷◌, ◌++◌, Option, Some, refl, sym, subst}
+use Rattle.std.proofs.Common.{◌≡◌, ℕ, suc, pos, [], ◌∷◌, Some, refl, sym, subst}
 use Rattle.std.specs.Prelude.{ℤ}
 use Rattle.std.specs.Int.{cast_unsigned, w64}
 use Rattle.bits64.specs.declared.Width.{Width}
-use Rattle.bits64.specs.declared.Width.TheVariants.{W8, W32, W64}
+use Rattle.bits64.specs.declared.Width.TheVariants.{W32, W64}
 use Rattle.rtx_tree.specs.declared.code.Code.{Code}
 use Rattle.rtx_tree.specs.declared.code.Code.TheVariants as code
 use Rattle.rtx_tree.specs.declared.code.Mode.{Mode}
@@ -21,7 +21,7 @@ use Rattle.term_mean.specs.Shifts.{shifted, shifted_by}
 use Rattle.term_mean.specs.Compared.{low_bits}
 use Rattle.term_mean.proofs.Widths.{width-summed}
 use Rattle.term_mean.proofs.NormalWidths.{width-built}
-use Rattle.sym_state.specs.State.{Need, Register}
+use Rattle.sym_state.specs.State.{Register}
 use Rattle.sym_state.specs.Makers.{one}
 use Rattle.sym_insns.specs.Value.{binary}
 use Rattle.sym_lines.specs.Compute.{computed}

@@ -22,10 +22,10 @@ use Rattle.sym_state.specs.Registers.{put}
 use Rattle.sym_lines.specs.Run as lines
 use Rattle.law_plain_terms.specs.Rows.{IsSmall}
 use Rattle.law_plain_terms.proofs.Moves as moves
-use Rattle.law_plain_lines.proofs.Effects.{made}
-use Rattle.law_plain_lines.proofs.Rows.{line_sets}
-use Rattle.law_plain_lines.proofs.OneLine.{Row, LineSets}
-use Rattle.law_plain_lines.proofs.WithConstant.{number}
+use Rattle.law_plain_states.proofs.Effects.{made}
+use Rattle.law_plain_states.proofs.Rows.{line_sets}
+use Rattle.law_plain_states.proofs.OneLine.{Row, LineSets}
+use Rattle.law_plain_rows.proofs.WithConstant.{number}
 
 -- ---- what `li` loads
 

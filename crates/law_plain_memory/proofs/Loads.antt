@@ -30,11 +30,11 @@ use Rattle.law_plain_terms.specs.Rows.{line_address, insn_address, loaded_at, lo
 use Rattle.law_plain_terms.proofs.Memory as memory
 use Rattle.law_plain_terms.proofs.Memory.{same_address}
 use Rattle.law_plain_terms.proofs.SmallMemory as small_memory
-use Rattle.law_plain_lines.proofs.Effects.{register, made}
-use Rattle.law_plain_lines.proofs.Rows.{both, access_covered, line_sets}
-use Rattle.law_plain_lines.proofs.OneLine.{AreSmallNeeds, Row, LineSets}
-use Rattle.law_plain_lines.proofs.Computes.{is_set}
-use Rattle.law_plain_lines.proofs.WithConstant.{With, number, word}
+use Rattle.law_plain_states.proofs.Effects.{register, made}
+use Rattle.law_plain_states.proofs.Rows.{both, access_covered, line_sets}
+use Rattle.law_plain_states.proofs.OneLine.{AreSmallNeeds, Row, LineSets}
+use Rattle.law_plain_states.proofs.Computes.{is_set}
+use Rattle.law_plain_rows.proofs.WithConstant.{With, number, word}
 
 -- ---- the line
 

@@ -27,11 +27,11 @@ use Rattle.law_plain_terms.proofs.Extended as extended
 use Rattle.law_plain_terms.proofs.Comparisons as comparisons
 use Rattle.law_plain_terms.proofs.SmallSums as small_sums
 use Rattle.law_plain_terms.proofs.SmallTruths as small_truths
-use Rattle.law_plain_lines.proofs.Effects.{register, made}
-use Rattle.law_plain_lines.proofs.Rows.{two_covered}
-use Rattle.law_plain_lines.proofs.OneLine.{Row}
-use Rattle.law_plain_lines.proofs.Computes.{is_set}
-use Rattle.law_plain_lines.proofs.TwoRegisters.{Two, operation_of, line_value, bits}
+use Rattle.law_plain_states.proofs.Effects.{register, made}
+use Rattle.law_plain_states.proofs.Rows.{two_covered}
+use Rattle.law_plain_states.proofs.OneLine.{Row}
+use Rattle.law_plain_states.proofs.Computes.{is_set}
+use Rattle.law_plain_rows.proofs.TwoRegisters.{Two, operation_of, line_value, bits}
 
 -- ---- the rows, by what is particular to each
 

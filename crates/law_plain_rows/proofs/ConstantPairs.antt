@@ -22,13 +22,13 @@ use Rattle.rtx_open.proofs.Expressions.{Written}
 use Rattle.law_plain_terms.specs.Rows.{whole, truth, reversed, IsSmall}
 use Rattle.law_plain_terms.proofs.LessConstant as less
 use Rattle.law_plain_terms.proofs.SmallTruths as small_truths
-use Rattle.law_plain_lines.proofs.Effects.{made}
-use Rattle.law_plain_lines.proofs.Rows.{one_covered}
-use Rattle.law_plain_lines.proofs.OneLine.{Row}
-use Rattle.law_plain_lines.proofs.Computes.{is_set}
-use Rattle.law_plain_lines.proofs.WithConstant.{With, word, line_value}
-use Rattle.law_plain_lines.proofs.ConstantValues.{compared}
-use Rattle.law_plain_lines.proofs.Pairs.{low_reversed, wide_reversed}
+use Rattle.law_plain_states.proofs.Effects.{made}
+use Rattle.law_plain_states.proofs.Rows.{one_covered}
+use Rattle.law_plain_states.proofs.OneLine.{Row}
+use Rattle.law_plain_states.proofs.Computes.{is_set}
+use Rattle.law_plain_rows.proofs.WithConstant.{With, word, line_value}
+use Rattle.law_plain_rows.proofs.ConstantValues.{compared}
+use Rattle.law_plain_rows.proofs.Pairs.{low_reversed, wide_reversed}
 
 -- ---- the rows, by what is particular to each
 

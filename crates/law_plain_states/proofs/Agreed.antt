@@ -10,7 +10,7 @@ use Rattle.sym_diff.specs.Registers.{value_behind}
 use Rattle.sym_diff.specs.States.{difference}
 use Rattle.sym_diff.specs.Agree.{Knows, Agree, FirstFails}
 use Rattle.sym_diff.proofs.FirstLaws.{first_found}
-use Rattle.law_plain_lines.specs.Frames.{IsKnown, AreCovered, sets, stores, jumps}
+use Rattle.law_plain_states.specs.Frames.{IsKnown, AreCovered, sets, stores, jumps}
 
 -- ---- no item fails
 

@@ -32,12 +32,12 @@ use Rattle.law_plain_terms.proofs.Comparisons as comparisons
 use Rattle.law_plain_terms.proofs.Equal as equal
 use Rattle.law_plain_terms.proofs.SmallSums as small_sums
 use Rattle.law_plain_terms.proofs.SmallTruths as small_truths
-use Rattle.law_plain_lines.proofs.Effects.{register, made}
-use Rattle.law_plain_lines.proofs.Rows.{two_covered, turned_covered}
-use Rattle.law_plain_lines.proofs.OneLine.{Row}
-use Rattle.law_plain_lines.proofs.Computes.{is_set}
-use Rattle.law_plain_lines.proofs.TwoRegisters.{Two, bits}
-use Rattle.law_plain_lines.proofs.Values.{compared}
+use Rattle.law_plain_states.proofs.Effects.{register, made}
+use Rattle.law_plain_states.proofs.Rows.{two_covered, turned_covered}
+use Rattle.law_plain_states.proofs.OneLine.{Row}
+use Rattle.law_plain_states.proofs.Computes.{is_set}
+use Rattle.law_plain_rows.proofs.TwoRegisters.{Two, bits}
+use Rattle.law_plain_rows.proofs.Values.{compared}
 
 -- ---- the rows, by what is particular to each: the line that is first reads the registers in the
 -- order of the instruction

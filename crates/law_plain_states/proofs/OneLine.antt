@@ -21,11 +21,11 @@ use Rattle.equate.specs.Side.{Lines}
 use Rattle.equate.specs.Equated.{Equated}
 use Rattle.rtx_open.proofs.Expressions.{Written, rtx}
 use Rattle.law_plain_terms.specs.Rows.{IsSmall}
-use Rattle.law_plain_lines.specs.Frames.{AreCovered, sets}
-use Rattle.law_plain_lines.proofs.Agreed.{set_agrees}
-use Rattle.law_plain_lines.proofs.Effects.{register, set_of, made}
-use Rattle.law_plain_lines.proofs.Equated.{insn_runs, line_runs, equated}
-use Rattle.law_plain_lines.proofs.Rows.{known, insn_sets, small_state, fits_plain, stays_plain}
+use Rattle.law_plain_states.specs.Frames.{AreCovered, sets}
+use Rattle.law_plain_states.proofs.Agreed.{set_agrees}
+use Rattle.law_plain_states.proofs.Effects.{register, set_of, made}
+use Rattle.law_plain_states.proofs.Equated.{insn_runs, line_runs, equated}
+use Rattle.law_plain_states.proofs.Rows.{known, insn_sets, small_state, fits_plain, stays_plain}
 
 -- each need is within the limit on terms
 abbrev pub AreSmallNeeds : List Need → Type 0

@@ -17,7 +17,7 @@ use Rattle.sym_lines.specs.Compute.{computed}
 use Rattle.law_plain_terms.specs.Rows.{part, whole, truth, reversed, shifted, line, IsSmall}
 use Rattle.law_plain_terms.proofs.Conversions as conversions
 use Rattle.law_plain_terms.proofs.Zeros as zeros
-use Rattle.law_plain_lines.proofs.OneRegister.{OneRow, row, operation_of, with_nought}
+use Rattle.law_plain_rows.proofs.OneRegister.{OneRow, row, operation_of, with_nought}
 
 -- ---- extensions
 

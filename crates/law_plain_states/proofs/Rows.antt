@@ -28,9 +28,9 @@ use Rattle.sym_lines.specs.Step as step
 use Rattle.sym_diff.specs.Compared.{covers, is_covered}
 use Rattle.sym_diff.proofs.sym_term.Steps.{same-is}
 use Rattle.sym_diff.proofs.NumberLaws.{itself, or_left, or_right}
-use Rattle.law_plain_lines.specs.Frames.{IsKnown, AreCovered, sets}
+use Rattle.law_plain_states.specs.Frames.{IsKnown, AreCovered, sets}
 use Rattle.rtx_open.proofs.Expressions.{Written, rtx}
-use Rattle.law_plain_lines.proofs.Effects.{register, set_of, made, sets_register}
+use Rattle.law_plain_states.proofs.Effects.{register, set_of, made, sets_register}
 
 -- ---- needs: a line needs that a register is set, an instruction so many bits of it
 

@@ -31,15 +31,15 @@ use Rattle.rtx_open.proofs.Expressions.{Written, rtx}
 use Rattle.law_plain_terms.specs.Rows.{part, line_address, IsSmall}
 use Rattle.law_plain_terms.proofs.Memory.{same_address}
 use Rattle.law_plain_terms.proofs.SmallMemory as small_memory
-use Rattle.law_plain_lines.specs.Frames.{AreCovered, stores}
-use Rattle.law_plain_lines.proofs.Agreed.{store_agrees}
-use Rattle.law_plain_lines.proofs.Effects.{register, set_of, made, memory_at, stores_memory}
-use Rattle.law_plain_lines.proofs.Equated.{insn_runs, line_runs, equated}
-use Rattle.law_plain_lines.proofs.Rows.{both, has_bits, access_has, line_sets, fits_plain, stays_plain}
-use Rattle.law_plain_lines.proofs.OneLine.{AreSmallNeeds}
-use Rattle.law_plain_lines.proofs.Computes.{is_set}
-use Rattle.law_plain_lines.proofs.WithConstant.{With, number, word}
-use Rattle.law_plain_lines.proofs.Loads.{address, address_of, at_address}
+use Rattle.law_plain_states.specs.Frames.{AreCovered, stores}
+use Rattle.law_plain_states.proofs.Agreed.{store_agrees}
+use Rattle.law_plain_states.proofs.Effects.{register, set_of, made, memory_at, stores_memory}
+use Rattle.law_plain_states.proofs.Equated.{insn_runs, line_runs, equated}
+use Rattle.law_plain_states.proofs.Rows.{both, has_bits, access_has, line_sets, fits_plain, stays_plain}
+use Rattle.law_plain_states.proofs.OneLine.{AreSmallNeeds}
+use Rattle.law_plain_states.proofs.Computes.{is_set}
+use Rattle.law_plain_rows.proofs.WithConstant.{With, number, word}
+use Rattle.law_plain_memory.proofs.Loads.{address, address_of, at_address}
 
 -- ---- states
 

@@ -31,10 +31,10 @@ use Rattle.law_plain_terms.proofs.Logic as logic
 use Rattle.law_plain_terms.proofs.Shifts as shifts
 use Rattle.law_plain_terms.proofs.SmallSums as small_sums
 use Rattle.law_plain_terms.proofs.SmallBits as small_bits
-use Rattle.law_plain_lines.proofs.Effects.{register, made}
-use Rattle.law_plain_lines.proofs.Rows.{two_covered}
-use Rattle.law_plain_lines.proofs.OneLine.{AreSmallNeeds, Row}
-use Rattle.law_plain_lines.proofs.Computes.{is_set}
+use Rattle.law_plain_states.proofs.Effects.{register, made}
+use Rattle.law_plain_states.proofs.Rows.{two_covered}
+use Rattle.law_plain_states.proofs.OneLine.{AreSmallNeeds, Row}
+use Rattle.law_plain_states.proofs.Computes.{is_set}
 
 -- two registers, by their numbers less 1
 abbrev pub Two : Type 0

@@ -20,9 +20,9 @@ use Rattle.sym_lines.specs.Run as lines
 use Rattle.sym_lines.specs.Compute.{computed}
 use Rattle.sym_diff.proofs.NumberLaws.{itself}
 use Rattle.law_plain_terms.proofs.Back.{low_same}
-use Rattle.law_plain_lines.specs.Frames.{sets}
-use Rattle.law_plain_lines.proofs.Rows.{small_state}
-use Rattle.law_plain_lines.proofs.OneLine.{Row, Sets, lines_equated}
+use Rattle.law_plain_states.specs.Frames.{sets}
+use Rattle.law_plain_states.proofs.Rows.{small_state}
+use Rattle.law_plain_states.proofs.OneLine.{Row, Sets, lines_equated}
 use Rattle.rtx_open.proofs.Expressions.{Written}
 use Rattle.rtx_tree.specs.declared.code.Mode.{Mode}
 use Rattle.rtx_tree.specs.declared.function.Insn.{Insn}

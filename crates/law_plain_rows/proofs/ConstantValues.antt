@@ -30,11 +30,11 @@ use Rattle.law_plain_terms.proofs.LessConstant as less
 use Rattle.law_plain_terms.proofs.SmallSums as small_sums
 use Rattle.law_plain_terms.proofs.SmallShifts as small_shifts
 use Rattle.law_plain_terms.proofs.SmallTruths as small_truths
-use Rattle.law_plain_lines.proofs.Effects.{register, made}
-use Rattle.law_plain_lines.proofs.Rows.{one_covered}
-use Rattle.law_plain_lines.proofs.OneLine.{Row}
-use Rattle.law_plain_lines.proofs.Computes.{is_set}
-use Rattle.law_plain_lines.proofs.WithConstant.{With, number, operation_of, word, line_value, small_line, small_count}
+use Rattle.law_plain_states.proofs.Effects.{register, made}
+use Rattle.law_plain_states.proofs.Rows.{one_covered}
+use Rattle.law_plain_states.proofs.OneLine.{Row}
+use Rattle.law_plain_states.proofs.Computes.{is_set}
+use Rattle.law_plain_rows.proofs.WithConstant.{With, number, operation_of, word, line_value, small_line, small_count}
 
 -- ---- the rows, by what is particular to each
 

@@ -15,8 +15,8 @@ use Rattle.sym_state.specs.Registers.{read, read_needs, put}
 use Rattle.sym_lines.specs.Run as lines
 use Rattle.sym_lines.specs.Compute.{computed}
 use Rattle.law_plain_terms.specs.Rows.{whole}
-use Rattle.law_plain_lines.proofs.OneLine.{LineSets}
-use Rattle.law_plain_lines.proofs.Rows.{line_sets}
+use Rattle.law_plain_states.proofs.OneLine.{LineSets}
+use Rattle.law_plain_states.proofs.Rows.{line_sets}
 
 -- the needs of a line: a register that it reads is set
 abbrev pub is_set : ℕ → Need

@@ -11,8 +11,8 @@ use Rattle.sym_state.specs.Registers.{held, left_by_call}
 use Rattle.sym_diff.specs.Registers.{value_behind}
 use Rattle.sym_diff.specs.States.{difference}
 use Rattle.sym_diff.specs.Agree.{Knows}
-use Rattle.law_plain_lines.specs.Frames.{AreCovered, ArgumentsAgree, calls}
-use Rattle.law_plain_lines.proofs.Agreed.{agreed, same_inside}
+use Rattle.law_plain_states.specs.Frames.{AreCovered, ArgumentsAgree, calls}
+use Rattle.law_plain_states.proofs.Agreed.{agreed, same_inside}
 
 -- as many bits are known of a term as it has
 narrower_none : (w : Width) → narrower w w ≡ false

@@ -26,10 +26,10 @@ use Rattle.law_plain_terms.proofs.Sums as sums
 use Rattle.law_plain_terms.proofs.Conversions as conversions
 use Rattle.law_plain_terms.proofs.Moves as moves
 use Rattle.law_plain_terms.proofs.Zeros as zeros
-use Rattle.law_plain_lines.proofs.Effects.{register, made}
-use Rattle.law_plain_lines.proofs.Rows.{one_covered}
-use Rattle.law_plain_lines.proofs.OneLine.{Row}
-use Rattle.law_plain_lines.proofs.Computes.{is_set}
+use Rattle.law_plain_states.proofs.Effects.{register, made}
+use Rattle.law_plain_states.proofs.Rows.{one_covered}
+use Rattle.law_plain_states.proofs.OneLine.{Row}
+use Rattle.law_plain_states.proofs.Computes.{is_set}
 
 -- an operation on a register of a mode, and on that and 0
 abbrev pub operation_of : Code → Mode → Mode → ℕ → Written

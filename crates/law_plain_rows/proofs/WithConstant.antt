@@ -35,10 +35,10 @@ use Rattle.law_plain_terms.proofs.Shifts.{whole_count}
 use Rattle.law_plain_terms.proofs.SmallSums as small_sums
 use Rattle.law_plain_terms.proofs.SmallBits as small_bits
 use Rattle.law_plain_terms.proofs.SmallShifts as small_shifts
-use Rattle.law_plain_lines.proofs.Effects.{register, made}
-use Rattle.law_plain_lines.proofs.Rows.{one_covered}
-use Rattle.law_plain_lines.proofs.OneLine.{Row}
-use Rattle.law_plain_lines.proofs.Computes.{is_set}
+use Rattle.law_plain_states.proofs.Effects.{register, made}
+use Rattle.law_plain_states.proofs.Rows.{one_covered}
+use Rattle.law_plain_states.proofs.OneLine.{Row}
+use Rattle.law_plain_states.proofs.Computes.{is_set}
 
 -- a register, by its number less 1, and a constant
 abbrev pub With : Type 0

@@ -1,5 +1,5 @@
 -- Tests by their questions and parts.
-use Rattle.std.proofs.Common.{◌≡◌, List, [], ◌∷◌, sym, ap, ◌∙◌, rules, Option, Some}
+use Rattle.std.proofs.Common.{◌≡◌, List, [], sym, ap, ◌∙◌, rules, Option, Some}
 use Rattle.pred_expr.specs.declared.question.Question.{Question}
 use Rattle.pred_expr.specs.declared.question.Test.{Test, out-Test}
 use Rattle.pred_expr.specs.declared.question.Test.TheViews.{the_lemmas}
@@ -40,15 +40,6 @@ alone_question t q is = has_question t q [] is
 
 pub alone_parts : (t : Test) (q : Question) → t ≡ alone q → parts_of t ≡ []
 alone_parts t q is = has_parts t q [] is
-
-pub two_is : (t : Test) (q : Question) (a b x y : Test) → parts_of t ≡ a ∷ b ∷ [] → question_of t ≡ q → a ≡ x → b ≡ y → t ≡ test_with q (x ∷ y ∷ [])
-two_is t q a b x y p e f g = test_is t q (x ∷ y ∷ []) e (p ∙ ap (λ u. u ∷ b ∷ []) f ∙ ap (λ u. x ∷ u ∷ []) g)
-
-pub first_is : (t : Test) (q : Question) (a b x y : Test) → parts_of t ≡ a ∷ b ∷ [] → t ≡ test_with q (x ∷ y ∷ []) → a ≡ x
-first_is t q a b x y p is = let same = sym p ∙ has_parts t q (x ∷ y ∷ []) is in cc
-
-pub second_is : (t : Test) (q : Question) (a b x y : Test) → parts_of t ≡ a ∷ b ∷ [] → t ≡ test_with q (x ∷ y ∷ []) → b ≡ y
-second_is t q a b x y p is = let same = sym p ∙ has_parts t q (x ∷ y ∷ []) is in cc
 
 pub some_of : (a b : Test) → ◌≡◌ {A = Option Test} (Some a) (Some b) → a ≡ b
 some_of a b is = cc

@@ -44,10 +44,15 @@ fn the_shipped_description_has_the_plain_forms(rt: HostRuntime) {
 #[test]
 fn other_descriptions_do_not_have_them(rt: HostRuntime) {
     assert!(rt; matches!(told(rt.alloc(), b""), Some(false)));
-    assert!(rt; matches!(
-        told(rt.alloc(), b"(define_insn \"jump\" [(return)] \"\" \"ret\")"),
-        Some(false)
-    ));
+    assert!(rt;
+        matches!(
+            told(
+                rt.alloc(),
+                b"(define_insn \"jump\" [(return)] \"\" \"ret\")"
+            ),
+            Some(false)
+        )
+    );
 }
 
 #[test]
@@ -57,15 +62,43 @@ fn each_part_of_a_form_counts(rt: HostRuntime) {
     assert!(rt; matches!(told_with(alloc, "\"*frame\"", b"\"*fram\""), Some(false)));
     assert!(rt; matches!(told_with(alloc, "sub<w>", b"add<w>"), Some(false)));
     assert!(rt; matches!(told_with(alloc, "\"r,I\"", b"\"r,n\""), Some(false)));
-    assert!(rt; matches!(told_with(alloc, "\"reg_or_0_operand\" \"rJ\"", b"\"register_operand\" \"r\""), Some(false)));
+    assert!(rt;
+        matches!(
+            told_with(
+                alloc,
+                "\"reg_or_0_operand\" \"rJ\"",
+                b"\"register_operand\" \"r\""
+            ),
+            Some(false)
+        )
+    );
     assert!(rt; matches!(told_with(alloc, "(mult:GPR", b"(plus:GPR"), Some(false)));
     assert!(rt; matches!(told_with(alloc, "ival == 0", b"ival == 1"), Some(false)));
-    assert!(rt; matches!(told_with(alloc, "65535 ? 48 : 32", b"65535 ? 48 : 33"), Some(false)));
+    assert!(rt;
+        matches!(
+            told_with(alloc, "65535 ? 48 : 32", b"65535 ? 48 : 33"),
+            Some(false)
+        )
+    );
 }
 
 #[test]
 fn the_last_form_counts(rt: HostRuntime) {
     let alloc = rt.alloc();
-    assert!(rt; matches!(told_with(alloc, "(define_peephole2", b"(define_unknown"), Some(false)));
-    assert!(rt; matches!(told_with(alloc, ";; RV64IM", b"(define_attr \"a\" \"b\" (const_string \"b\")) ;"), Some(false)));
+    assert!(rt;
+        matches!(
+            told_with(alloc, "(define_peephole2", b"(define_unknown"),
+            Some(false)
+        )
+    );
+    assert!(rt;
+        matches!(
+            told_with(
+                alloc,
+                ";; RV64IM",
+                b"(define_attr \"a\" \"b\" (const_string \"b\")) ;"
+            ),
+            Some(false)
+        )
+    );
 }

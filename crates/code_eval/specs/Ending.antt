@@ -7,9 +7,13 @@ use Rattle.rtx_tree.specs.declared.code.Mode.{Mode}
 use Rattle.rtx_tree.specs.declared.memories.MemByte.{MemByte}
 use Rattle.rtl_step.specs.Value.{width_of}
 use Rattle.func_run.specs.declared.outcome.Outcome.{Outcome}
-use Rattle.func_run.specs.declared.outcome.Outcome.TheVariants as rtl
+use Rattle.func_run.specs.declared.outcome.Standing.{Standing}
+use Rattle.func_run.specs.declared.outcome.Standing.TheVariants as rtl
+use Rattle.func_run.specs.Standing as rtl_standings
 use Rattle.rv_line.specs.declared.outcome.CodeOutcome.{CodeOutcome}
-use Rattle.rv_line.specs.declared.outcome.CodeOutcome.TheVariants as code
+use Rattle.rv_line.specs.declared.outcome.CodeStanding.{CodeStanding}
+use Rattle.rv_line.specs.declared.outcome.CodeStanding.TheVariants as code
+use Rattle.rv_line.specs.Standing as code_standings
 use Rattle.code_eval.specs.declared.ending.Ending.{Ending}
 use Rattle.code_eval.specs.declared.ending.Ending.TheVariants as ending
 
@@ -24,21 +28,26 @@ abbrev pub result_in : Option Mode → Option ℕ → Option ℕ
 result_in mode a0 =
     option_and_then (λ w. option_map (λ number. low w number) a0) (option_and_then width_of mode)
 
--- what is told of the run of a function
+-- what is told of the run of a function, by how it stands
+abbrev pub rtl_standing : Standing → Ending
+rtl_standing rtl.Undefined = ending.Undefined
+rtl_standing (rtl.Running calls) = ending.Running calls
+rtl_standing (rtl.Asked calls) = ending.Asked calls
+rtl_standing (rtl.Returned value memory calls) = ending.Returned value calls (bytes_set memory)
+
 abbrev pub rtl_ending : Outcome → Ending
-rtl_ending rtl.Undefined = ending.Undefined
-rtl_ending (rtl.Running calls) = ending.Running (length calls)
-rtl_ending (rtl.Asked calls) = ending.Asked (length calls)
-rtl_ending (rtl.Returned value memory calls kept) =
-    ending.Returned value (length calls) (bytes_set memory)
+rtl_ending outcome = rtl_standing (rtl_standings.standing_of outcome)
 
 -- what is told of the run of the code of a function whose result has a mode
+abbrev pub code_standing : Option Mode → CodeStanding → Ending
+code_standing mode code.Stuck = ending.Undefined
+code_standing mode (code.Running calls) = ending.Running calls
+code_standing mode (code.Asked calls) = ending.Asked calls
+code_standing mode (code.Returned value memory calls) =
+    ending.Returned (result_in mode value) calls (bytes_set memory)
+
 abbrev pub code_ending : Option Mode → CodeOutcome → Ending
-code_ending mode code.Stuck = ending.Undefined
-code_ending mode (code.Running calls) = ending.Running (length calls)
-code_ending mode (code.Asked calls) = ending.Asked (length calls)
-code_ending mode (code.Returned value memory calls kept) =
-    ending.Returned (result_in mode value) (length calls) (bytes_set memory)
+code_ending mode outcome = code_standing mode (code_standings.standing_of outcome)
 
 -- ---- its text
 

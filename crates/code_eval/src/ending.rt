@@ -3,11 +3,11 @@ ghost use Rattle.std.specs.Prelude.{◌≡◌, ◌++◌, OnOk};
 ghost use Rattle.code_eval.specs.Ending as spec;
 
 use bits64::trunc;
-use func_run::Outcome;
+use func_run::Standing;
 use plain_data::Memory;
 use rtl_step::width_of;
 use rtx_tree::{MemByte, Mode};
-use rv_line::CodeOutcome;
+use rv_line::CodeStanding;
 use text_words::{print_count, print_text};
 
 /// What is told of the outcome of a run.
@@ -51,50 +51,40 @@ fn result_in(mode: Option<Mode>, a0: Option<u64>) -> Option<u64>
 }
 
 /// What is told of the run of a function.
-pub fn rtl_ending(outcome: &Outcome) -> Ending
-    ensures { result ≡ spec.rtl_ending outcome.now }
+pub fn rtl_ending(standing: &Standing) -> Ending
+    ensures { result ≡ spec.rtl_standing standing.now }
 {
-    match outcome {
-        Outcome::Undefined => Ending::Undefined,
-        Outcome::Running { calls } => Ending::Running {
-            calls: calls.len() as u64,
-        },
-        Outcome::Asked { calls } => Ending::Asked {
-            calls: calls.len() as u64,
-        },
-        Outcome::Returned {
+    match standing {
+        Standing::Undefined => Ending::Undefined,
+        Standing::Running { calls } => Ending::Running { calls: *calls },
+        Standing::Asked { calls } => Ending::Asked { calls: *calls },
+        Standing::Returned {
             value,
             memory,
             calls,
-            ..
         } => Ending::Returned {
             value: *value,
-            calls: calls.len() as u64,
+            calls: *calls,
             set: bytes_set(memory.bytes()),
         },
     }
 }
 
 /// What is told of the run of the code of a function whose result has a mode.
-pub fn code_ending(mode: Option<Mode>, outcome: &CodeOutcome) -> Ending
-    ensures { result ≡ spec.code_ending mode outcome.now }
+pub fn code_ending(mode: Option<Mode>, standing: &CodeStanding) -> Ending
+    ensures { result ≡ spec.code_standing mode standing.now }
 {
-    match outcome {
-        CodeOutcome::Stuck => Ending::Undefined,
-        CodeOutcome::Running { calls } => Ending::Running {
-            calls: calls.len() as u64,
-        },
-        CodeOutcome::Asked { calls } => Ending::Asked {
-            calls: calls.len() as u64,
-        },
-        CodeOutcome::Returned {
+    match standing {
+        CodeStanding::Stuck => Ending::Undefined,
+        CodeStanding::Running { calls } => Ending::Running { calls: *calls },
+        CodeStanding::Asked { calls } => Ending::Asked { calls: *calls },
+        CodeStanding::Returned {
             value,
             memory,
             calls,
-            ..
         } => Ending::Returned {
             value: result_in(mode, *value),
-            calls: calls.len() as u64,
+            calls: *calls,
             set: bytes_set(memory.bytes()),
         },
     }

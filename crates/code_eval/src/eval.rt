@@ -1,6 +1,7 @@
 //! A function and its code, tried from one start in one world.
 ghost use Rattle.std.specs.Prelude.{◌≡◌, ◌++◌, IfOk, codes};
 ghost use Rattle.func_run.specs.Run as rtl;
+ghost use Rattle.func_run.specs.Standing.{standing_of};
 ghost use Rattle.code_eval.specs.Eval as spec;
 ghost use Rattle.code_eval.specs.Eval.{AgreeAsSame, IsFair};
 ghost use Rattle.code_eval.specs.World as worlds;
@@ -9,10 +10,10 @@ ghost use Rattle.code_eval.specs.Ending as endings;
 use crate::ending::{Ending, code_ending, print_line, rtl_ending};
 use crate::start::{code_start, rtl_start};
 use crate::world::world_of;
-use func_run::{Outcome, run_function};
+use func_run::{Standing, standing_after};
 use plain_data::Memory;
 use rtx_tree::{Function, Start, World};
-use rv_line::run_lines;
+use rv_line::lines_standing;
 use rv_text::CodeItem;
 use std::alloc::Global;
 
@@ -23,18 +24,19 @@ fn lines_for(steps: u16) -> u64
     64 * u64::from(steps) + 1000
 }
 
-/// The outcome of a function. A chain with more places than have a number is wanted as memory is.
-fn rtl_outcome(
+/// How the run of a function stands. A chain with more places than have a number is wanted as memory is.
+fn rtl_standing(
     alloc: Global,
     f: &Function,
     start: &Start,
     world: &World,
     steps: u16,
-) -> Result<Outcome, Memory>
-    ensures { IfOk result (λ outcome. outcome ≡ rtl.run_of f.now start.now world.now steps) }
+) -> Result<Standing, Memory>
+    ensures { IfOk result (λ standing.
+        standing ≡ standing_of (rtl.run_of f.now start.now world.now steps)) }
 {
     if f.insns.len() <= 0xffff_ffff {
-        run_function(alloc, f, start, world, u64::from(steps))
+        standing_after(alloc, f, start, world, u64::from(steps))
     } else {
         Err(Memory)
     }
@@ -53,8 +55,8 @@ fn rtl_run(
         ending ≡ endings.rtl_ending (spec.rtl_outcome f.now steps args)) }
 {
     let start = rtl_start(alloc, f, args)?;
-    let outcome = rtl_outcome(alloc, f, &start, world, steps)?;
-    Ok(rtl_ending(&outcome))
+    let standing = rtl_standing(alloc, f, &start, world, steps)?;
+    Ok(rtl_ending(&standing))
 }
 
 /// What is told of its code.
@@ -71,8 +73,8 @@ fn code_run(
         ending ≡ endings.code_ending f.now.result (spec.code_outcome f.now items.now steps args)) }
 {
     let start = code_start(alloc, f, args)?;
-    let outcome = run_lines(alloc, items, &start, world, lines_for(steps))?;
-    Ok(code_ending(f.result, &outcome))
+    let standing = lines_standing(alloc, items, &start, world, lines_for(steps))?;
+    Ok(code_ending(f.result, &standing))
 }
 
 fn lines_of(alloc: Global, rtl: Ending, code: Ending) -> Result<Vec<u8>, Memory>

@@ -2,3 +2,5 @@ pub mod JoinedWays
 pub mod LevelWays
 pub mod StateWays
 pub mod WholeWays
+pub mod Phrases
+pub mod Derived

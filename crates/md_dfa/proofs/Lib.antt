@@ -1,3 +1,4 @@
 pub mod UnitLaws
 pub mod TestLaws
 pub mod ListLaws
+pub mod LawfulLaws

@@ -2,3 +2,4 @@ pub mod Units
 pub mod Test
 pub mod Reservations
 pub mod Pipeline
+pub mod Lawful

@@ -2,6 +2,7 @@
 ghost use Rattle.std.specs.Prelude.{◌≡◌, ◌<◌, List, ℕ, Some, IfOk, length, map, slice_get, option_map};
 ghost use Rattle.md_forms.specs.declared.form.Entry.{Entry};
 ghost use Rattle.md_attr.specs.machine.Tables.{AreAttributesOf};
+ghost use Rattle.md_dfa.specs.Lawful.{AreLawful};
 ghost use Rattle.md_dfa.specs.Pipeline as spec;
 
 use crate::reservation::{Reservation, reservations_of};
@@ -66,11 +67,13 @@ impl Pipeline {
 /// The pipeline of a description's forms, once its iterators are expanded.
 ///
 /// A form that defines units by which there would be more than 64 defines none. A form of a
-/// reservation that is outside what is read, or whose expression is, is passed over.
+/// reservation that is outside what is read, or whose expression is, is passed over. So whoever has a
+/// reservation has ways to try.
 #[tactic(auto, unfolding(crate::specs::Pipeline::pipeline_of))]
 pub fn pipeline_of(alloc: Global, forms: &[Instance]) -> Result<Pipeline, Memory>
-    ensures { IfOk result (λ pipeline.
+    ensures is_of { IfOk result (λ pipeline.
         pipeline ≡ spec.pipeline_of (map (λ form. form.tree) forms.now)) }
+    ensures lawful { IfOk result (λ pipeline. AreLawful pipeline) }
 {
     let units = units_of(alloc, forms)?;
     Ok(Pipeline {

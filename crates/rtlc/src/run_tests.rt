@@ -2,10 +2,10 @@
 use byte_edge::{ByteFiles, ByteSink, ByteSource, Files, QuietFiles};
 use case_text::Told;
 use code_eval::{code_ending, print_line, rtl_ending};
-use func_run::Outcome;
-use plain_data::{Items, Memory};
+use func_run::Standing;
+use plain_data::Memory;
 use rtlc_run::run;
-use rv_line::CodeOutcome;
+use rv_line::CodeStanding;
 use std::alloc::Global;
 
 /// The status of a run, and the line of its refusal.
@@ -109,12 +109,8 @@ fn a_function_has_so_many_instructions(rt: HostRuntime) {
 
 /// What is told of a function that asks a call, and of lines that do.
 fn told_of_asking(alloc: Global) -> Result<Vec<u8>, Memory> {
-    let rtl = Outcome::Asked {
-        calls: Items::new(alloc),
-    };
-    let code = CodeOutcome::Asked {
-        calls: Items::new(alloc),
-    };
+    let rtl = Standing::Asked { calls: 0 };
+    let code = CodeStanding::Asked { calls: 0 };
     let mut text = Vec::new(alloc);
     print_line(b"rtl", rtl_ending(&rtl), &mut text)?;
     print_line(b"code", code_ending(None, &code), &mut text)?;

@@ -14,12 +14,8 @@ fn has_homes(pass: Pass) -> bool
     ensures { result ≡ spec.has_homes pass }
 {
     match pass {
-        Pass::Read
-        | Pass::Lower
-        | Pass::Reuse
-        | Pass::Combine
-        | Pass::Split1
-        | Pass::Reload => false,
+        Pass::Read | Pass::Lower | Pass::Reuse | Pass::Combine | Pass::Split1 | Pass::Reload =>
+            false,
         Pass::Frame | Pass::Split2 | Pass::Peephole2 | Pass::Output => true,
     }
 }

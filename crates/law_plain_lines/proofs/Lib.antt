@@ -1,0 +1,12 @@
+pub mod Agreed
+pub mod Called
+pub mod Equated
+pub mod Effects
+pub mod Rows
+pub mod OneLine
+pub mod Computes
+pub mod TwoRegisters
+pub mod WithConstant
+pub mod OneRegister
+pub mod Values
+pub mod ConstantValues

@@ -42,14 +42,14 @@ returns-in-Err-clause-endless g c = takes_enough
 
 -- what is known of the files does not matter: nothing is
 pub returns-in-Ok-clause-behaves : goal.returns-in-Ok-clause-behaves
-returns-in-Ok-clause-behaves g c = λ name is zero.
+returns-in-Ok-clause-behaves g c = λ name road is zero.
     writes_same (words_of c.args.words.now) nothing_known (g.S.Source.left c.args.input.now) (g.K.Sink.taken c.args.output.now)
-    (g.K.Sink.taken c.attempt.new.output) name is (c.in-Ok.ensures.done nothing_known (nothing_agrees (g.F.Files.holds c.args.files.now)))
+    (g.K.Sink.taken c.attempt.new.output) name road is (c.in-Ok.ensures.done nothing_known (nothing_agrees (g.F.Files.holds c.args.files.now)))
 
 pub returns-in-Ok-clause-framed : goal.returns-in-Ok-clause-framed
-returns-in-Ok-clause-framed g c = λ known agrees name is zero.
+returns-in-Ok-clause-framed g c = λ known agrees name road is zero.
     writes_framed (words_of c.args.words.now) known (g.S.Source.left c.args.input.now) (g.K.Sink.taken c.args.output.now)
-    (g.K.Sink.taken c.attempt.new.output) name is (c.in-Ok.ensures.done known agrees)
+    (g.K.Sink.taken c.attempt.new.output) name road is (c.in-Ok.ensures.done known agrees)
 
 pub returns-in-Ok-clause-words : goal.returns-in-Ok-clause-words
 returns-in-Ok-clause-words g c = λ name is zero.

@@ -59,6 +59,7 @@ fn show(command: &Command, told: &mut Told) {
             description,
             told: what,
         } => show_over(description, what, told),
+        Command::Plain => told.text("plain"),
         Command::Listed { description } => show_described("list", description, told),
         Command::Made {
             description,

@@ -1,5 +1,5 @@
 -- Each step takes one instruction away.
-use Rattle.std.proofs.Common.{◌≡◌, ℕ, suc, ◌+◌, ◌-◌, ◌<◌, List, [], ◌∷◌, ◌++◌, length, take, drop, ap, ◌∙◌, arith}
+use Rattle.std.proofs.Common.{◌≡◌, ℕ, suc, ◌+◌, ◌-◌, ◌<◌, ◌≤◌, List, [], ◌∷◌, ◌++◌, length, take, drop, ap, ◌∙◌, arith}
 use Rattle.std.proofs.lemmas.List.{length-append, length-drop, length-take-le}
 use Rattle.std.proofs.lemmas.Option.{slice_get_within}
 use Rattle.rtx_tree.specs.declared.tree.Rtx.{Rtx}
@@ -26,6 +26,15 @@ combined_long f first second x before within =
     let whole = length-append (take first f.insns) (new ++ drop (second + 1) f.insns) in
     let back = length-append new (drop (second + 1) f.insns) in
     omega (arith, front, long, one, behind, whole, back, before, within)
+
+-- what stands for the window of a pair is shorter
+pub pair_shorter : (f : Function) (first second : ℕ) (x : Rtx) (new : List Insn) → first < second → second < length f.insns → new ≡ fused_window x (window f first (second + 1)) → first + length new ≤ second + 1
+pair_shorter f first second x new before within is =
+    let rest = length-drop first f.insns in
+    let long = length-take-le (second + 1 - first) (drop first f.insns) (omega (arith, before, within, rest)) in
+    let one = fused_long x (window f first (second + 1)) (omega (arith, long, before)) in
+    let same = ap length is in
+    omega (arith, long, one, same, before)
 
 pub step_long : (forms : List Entry) (f g : Function) → IsStep forms f g → suc (length g.insns) ≡ length f.insns
 step_long forms f g step =

@@ -15,7 +15,7 @@ use rtx_tree::Function;
 use std::alloc::Global;
 
 /// Puts one instruction in the place of a pair. Gives a place in front of which no second of a pair
-/// stands then.
+/// stands then. Nothing is put before all is made that takes memory.
 fn put(alloc: Global, desc: &Description, chain: &mut LiveChain, pair: Pair) -> Result<u32, Memory>
     requires { found.IsNext desc.now chain.old pair }
     ensures step { OnOk result (spec.IsStep desc.now chain.old chain.new) }
@@ -24,7 +24,9 @@ fn put(alloc: Global, desc: &Description, chain: &mut LiveChain, pair: Pair) -> 
 {
     let Pair { first, second, new } = pair;
     let end = behind(second)?;
-    if chain.replace(alloc, first, end, new)? {
+    let rows = chain.rows_for(alloc, first, end, new.as_slice())?;
+    // all that takes memory is made, so what follows is not refused
+    if chain.fuse(first, end, new, rows) {
         Ok(first)
     } else {
         Ok(0)

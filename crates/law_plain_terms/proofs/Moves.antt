@@ -28,7 +28,7 @@ copy_8 a = refl
 -- ---- li
 
 -- a constant and 0
-sum_of_constant : (c : ℕ) → summed W64 0 ((1, constant W64 c) ∷ (1, constant W64 0) ∷ []) ≡ constant W64 c
+pub sum_of_constant : (c : ℕ) → summed W64 0 ((1, constant W64 c) ∷ (1, constant W64 0) ∷ []) ≡ constant W64 c
 sum_of_constant c = bare_sum W64 _ ∙ ap (λ n. Sum W64 n no_atoms) (omega arith)
 
 pub load_64 : Loads W64

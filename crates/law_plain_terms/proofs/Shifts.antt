@@ -9,7 +9,7 @@ use Rattle.term_tree.specs.declared.head.Head.{Head}
 use Rattle.term_tree.specs.declared.head.Head.TheVariants as heads
 use Rattle.term_tree.specs.declared.head.Extension.{Extension}
 use Rattle.term_tree.specs.declared.head.Extension.TheVariants.{Zero, Sign}
-use Rattle.term_tree.specs.Tree.{Tree, width_of}
+use Rattle.term_tree.specs.Tree.{Tree}
 use Rattle.term_mean.specs.Sums.{constant}
 use Rattle.term_mean.specs.Shifts.{by_constant, right_exact, left_of, shifted, shifted_by, two_parts}
 use Rattle.term_mean.specs.Masks.{cut_8, cut_32}

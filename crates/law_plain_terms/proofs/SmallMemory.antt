@@ -7,6 +7,8 @@ use Rattle.rv_text.specs.declared.action.Extension.{Extension}
 use Rattle.rv_text.specs.declared.action.Extension.TheVariants.{Sign, Zero}
 use Rattle.term_tree.specs.Tree.{Tree}
 use Rattle.term_mean.specs.Sums.{sum}
+use Rattle.term_tree.specs.declared.head.Head.TheVariants as heads
+use Rattle.sym_state.specs.Makers.{one}
 use Rattle.law_plain_terms.specs.Rows.{whole, line_address, loaded_at, loads, IsSmall}
 
 -- a register and an offset
@@ -48,3 +50,15 @@ line_loads e w a c = small_loaded e w (sum_of W64 (low W64 c) (product_of W64 1 
 
 pub insn_reads : (w : Width) (a c : ℕ) → IsSmall (loaded_at w (line_address a c))
 insn_reads w a c = small_load w (sum_of W64 (low W64 c) (product_of W64 1 0)) a
+
+-- what an instruction extends of it to 32 bits
+small_signed : (w : Width) (n a : ℕ) → IsSmall (one [] heads.Sext W32 (loaded_at w (at n a)))
+small_signed w zero a = refl
+small_signed w (suc n) a = refl
+
+small_unsigned : (w : Width) (n a : ℕ) → IsSmall (one [] heads.Zext W32 (loaded_at w (at n a)))
+small_unsigned w zero a = refl
+small_unsigned w (suc n) a = refl
+
+pub insn_extends : (w : Width) (a c : ℕ) → IsSmall (one [] heads.Sext W32 (loaded_at w (line_address a c))) × IsSmall (one [] heads.Zext W32 (loaded_at w (line_address a c)))
+insn_extends w a c = let n = sum_of W64 (low W64 c) (product_of W64 1 0) in (small_signed w n a, small_unsigned w n a)

@@ -18,6 +18,8 @@ mod long_tests;
 #[cfg(test)]
 mod plain_data_tests;
 #[cfg(test)]
+mod plain_tests;
+#[cfg(test)]
 mod pool_tests;
 #[cfg(test)]
 mod reg_tests;

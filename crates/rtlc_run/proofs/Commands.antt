@@ -144,7 +144,10 @@ refused_has_cause words known input (refusal.NotEquated function uid rule item l
 
 may_ask_nothing : (known : Source) (c : Option Command) → MayBeAsked known c []
 may_ask_nothing known None = refl
-may_ask_nothing known (Some c) = AreNamed.none
+may_ask_nothing known (Some (commands.Over name t)) = AreNamed.none
+may_ask_nothing known (Some commands.Plain) = refl
+may_ask_nothing known (Some (commands.Listed name)) = AreNamed.none
+may_ask_nothing known (Some (commands.Made name number)) = AreNamed.none
 
 pub nothing_asked : (known : Source) (c : Option Command) (asked : Option (List (List ℕ))) → GrewBy (MayBeAsked known c) asked asked
 nothing_asked known c None = tt
@@ -175,7 +178,8 @@ words_fail words known faults faults' input input' asked asked' c is h = subst (
 -- a read fails for words only that are a command
 pub fails_spoken : (known : Source) (faults faults' input input' : ℕ) (asked asked' : Option (List (List ℕ))) (o : Option Command) → ReadFails known faults faults' input input' asked asked' o → IsSome o
 fails_spoken known faults faults' input input' asked asked' _ (ReadFails.of_input name t forms come rose same) = refl
-fails_spoken known faults faults' input input' asked asked' _ (ReadFails.of_files c asks rose same) = refl
+fails_spoken known faults faults' input input' asked asked' _ (ReadFails.of_plain rose same) = refl
+fails_spoken known faults faults' input input' asked asked' _ (ReadFails.of_files c reads asks rose same) = refl
 
 -- ---- what is known of files
 

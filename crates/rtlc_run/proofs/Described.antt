@@ -1,6 +1,6 @@
 -- There is one answer by a description, and what it says of a text that was written.
 use Rattle.std.proofs.Common.{◌≡◌, ℕ, ◌+◌, ◌≤◌, List, [], ◌∷◌, Result, Ok, Err, Option, Some, None, refl, sym, ap, subst, ◌∙◌, arith}
-use Rattle.std.specs.Prelude.{IfOk, IsSome}
+use Rattle.std.specs.Prelude.{IfOk, IfSome, IsSome}
 use Rattle.std.specs.Io.KnownBytes.{Appends}
 use Rattle.rtx_tree.specs.declared.function.Function.{Function}
 use Rattle.rtx_tree.specs.declared.limit.Limit.TheVariants as limit
@@ -18,7 +18,7 @@ use Rattle.md_list.proofs.Lists.{one_list}
 use Rattle.md_named.specs.Named.{source_refused, FormsCome}
 use Rattle.md_named.proofs.Forms.{one_answer as one_forms}
 use Rattle.func_input.specs.Outcome.{Outcome}
-use Rattle.func_input.specs.Input.{IsRead, IsInput, FunctionsComeTo}
+use Rattle.func_input.specs.Input.{IsRead, IsInput, FunctionsComeTo, InputComesTo}
 use Rattle.func_input.proofs.Inputs.{input_reached, input_last}
 use Rattle.func_input.proofs.One.{one_coming_to}
 use Rattle.pass_name.specs.declared.road.Road.{Road}
@@ -53,6 +53,7 @@ use Rattle.rtlc_words.specs.declared.command.Command.TheVariants as commands
 use Rattle.rtlc_run.specs.Told.{evaluated, EvalComes, ToldComes, Tells, HaveText}
 use Rattle.rtlc_run.specs.Generated.{summary_line, summary_told, SummaryComes, TellsSummary}
 use Rattle.rtlc_run.specs.Answer.{Given, described, list_told, ByForms, OverInput, CommandComes}
+use Rattle.plain_text.specs.Plain.{ComeToLines, text_of}
 use Rattle.rtlc_run.specs.Written.{WritesSame, WritesSameFramed, WritesWords, Means, HasText}
 
 -- ---- one answer
@@ -202,12 +203,18 @@ tells_summary number forms text own =
     let told = summary_text own.0 text own.2 in
     (told.0, is_assembly forms Usual (made number ∷ []) told.0 (admitted_come forms (made number ∷ []) own.0 told.0 told.1 own.1), told.2)
 
+same_text : (a b : List ℕ) → ◌≡◌ {A = Outcome} (Ok a) (Ok b) → a ≡ b
+same_text a b is = cc
+
 -- what the answer to a command says, where it is a text
 pub means : (known : Source) (left : Option (List ℕ)) (c : Command) (text : List ℕ) → CommandComes known left c (Ok text) → Means known left c text
 means known None (commands.Over name t) text comes = tt
 means known (Some bytes) (commands.Over name t) text comes =
     let by = reached (OverInput t (Some bytes)) known (described name) text (Ok text) refl comes in
     (by.forms, by.come, tells t by.forms bytes text (is_described known (described name) by.forms by.come) by.own)
+means known None commands.Plain text comes = tt
+means known (Some bytes) commands.Plain text comes =
+    let r = input_reached ComeToLines bytes text (Ok text) refl comes in (r.functions, r.input, same_text (text) (text_of r.functions) r.own)
 means known left (commands.Listed name) text comes = subst (ListComes known (described name)) (told_list comes.0 text comes.2) comes.1
 means known left (commands.Made name number) text comes =
     let by = reached (SummaryComes number) known (described name) text (Ok text) refl comes in (by.forms, by.come, tells_summary number by.forms text by.own)
@@ -259,6 +266,9 @@ pub ends : (known : Source) (left : Option (List ℕ)) (c : Command) (o : Outcom
 ends known left (commands.Over name t) o has comes =
     let here = subst (λ (i : Option (List ℕ)). ByForms (OverInput t i) known (described name) o) has.4 comes in
     told_has t has.1 has.3 has.5 o has.6 has.7 (by_known (OverInput t (Some has.3)) known (described name) has.1 o has.0 has.2 here)
+ends known left commands.Plain o has comes =
+    let here = subst (λ (i : Option (List ℕ)). IfSome i (λ bytes. InputComesTo ComeToLines bytes o)) has.1 comes in
+    (text_of has.2, input_last ComeToLines has.0 has.2 o has.3 here)
 ends known left (commands.Listed name) o has comes = (has.1, comes.2 ∙ ap list_told (one_list known (described name) comes.0 (Ok has.1) has.0 comes.1 has.2))
 ends known left (commands.Made name number) o has comes =
     let own = by_known (SummaryComes number) known (described name) has.1 o has.0 has.2 comes in

@@ -6,6 +6,7 @@ use Rattle.md_list.proofs.Lists.{one_list}
 use Rattle.func_input.specs.Outcome.{Outcome}
 use Rattle.pass_name.specs.declared.road.Road.{Road}
 use Rattle.rtlc_words.specs.declared.command.Told.TheVariants as telling
+use Rattle.plain_text.proofs.Lines.{one as plain_one}
 use Rattle.rtlc_words.specs.declared.command.Command.{Command}
 use Rattle.rtlc_words.specs.declared.command.Command.TheVariants as commands
 use Rattle.rtlc_words.specs.Words.{command_of}
@@ -31,6 +32,8 @@ comes_to words known input c _ is (Answers.spoken d o is' comes) = subst (λ (k 
 
 one_command : (known : Source) (input : Option (List ℕ)) (c : Command) (a b : Outcome) → IsKnownFor known input (Some c) → CommandComes known input c a → CommandComes known input c b → a ≡ b
 one_command known input (commands.Over name t) a b enough p q = one_telling t known input (described name) a b enough p q
+one_command known None commands.Plain a b enough p q = absurd (let no : ⊥ = cc in no)
+one_command known (Some bytes) commands.Plain a b enough p q = plain_one bytes a b p q
 one_command known input (commands.Made name number) a b enough p q = one_summary number known (described name) a b enough p q
 one_command known input (commands.Listed name) a b enough p q = p.2 ∙ ap list_told (one_list known (described name) p.0 q.0 enough p.1 q.1) ∙ sym q.2
 

@@ -22,11 +22,16 @@ use Rattle.func_image.specs.func_text.Code.{CodeComes, Gives as GivesCode}
 use Rattle.rtl_make.specs.Made.{made}
 use Rattle.rtlc_words.specs.declared.command.Told.{Told}
 use Rattle.rtlc_words.specs.declared.command.Told.TheVariants as telling
+use Rattle.plain_text.specs.Plain.{ComeToLines}
 use Rattle.rtlc_run.specs.Told.{EvalComes, ToldComes}
 use Rattle.rtlc_run.specs.Generated.{SummaryComes}
 use Rattle.rtlc_run.specs.Answer.{ByForms, OverInput, IsMissing}
 use Rattle.rtlc_run.specs.machine.Steps.{Gives, InputRefused, IsOwn}
 use Rattle.rtlc_run.proofs.Commands.{of_input, gives_map}
+
+-- which functions of the input are plain
+abbrev OverPlain : Option (List ℕ) → Outcome → Type 0
+OverPlain left outcome = IfSome left (λ bytes. InputComesTo ComeToLines bytes outcome)
 
 -- ---- the description
 
@@ -87,6 +92,32 @@ input_told t known left left' name forms bytes r come read h =
 -- what is missing among the bytes that were read is missing in the input
 pub misused : (t : Told) (left left' : Option (List ℕ)) (bytes : List ℕ) → Consumes left left' bytes × IsAtEnd left' → IsMissing t bytes → IfSome left (λ bytes. IsMissing t bytes)
 misused t left left' bytes read h = of_input (λ (bs : List ℕ). IsMissing t bs) left left' bytes read h
+
+-- ---- which functions are plain
+
+-- bytes that are too many are no functions, whatever is told of these
+plain_too_many : (bytes : List ℕ) → most_bytes < length bytes → InputComesTo ComeToLines bytes (Err (refusal.Limit limit.Text (most_bytes + 1)))
+plain_too_many bytes long = InputComesTo.too_long long
+
+plain_too_many_left : (left : Option (List ℕ)) (count : ℕ) → InputRefused left (refusal.Limit limit.Text count) → IfSome left (λ bytes. InputComesTo ComeToLines bytes (Err (refusal.Limit limit.Text count)))
+plain_too_many_left None count h = tt
+plain_too_many_left (Some bytes) count h = subst (λ (n : ℕ). InputComesTo ComeToLines bytes (Err (refusal.Limit limit.Text n))) (sym h.0) (plain_too_many bytes h.1)
+
+plain_limit : (left : Option (List ℕ)) (which : Limit) (count : ℕ) → InputRefused left (refusal.Limit which count) → Gives (Err (refusal.Limit which count)) (OverPlain left)
+plain_limit left limit.Text count h = plain_too_many_left left count h
+plain_limit left _ count h = absurd h
+
+-- an input that was not read refuses it
+pub plain_unread : (left : Option (List ℕ)) (e : Refusal) → InputRefused left e → Gives (Err e) (OverPlain left)
+plain_unread left refusal.Memory h = tt
+plain_unread left refusal.ReadFault h = tt
+plain_unread left (refusal.Limit which count) h = plain_limit left which count h
+plain_unread left _ h = absurd h
+
+-- what the bytes that were read came to, the input comes to
+pub plain_told : (left left' : Option (List ℕ)) (bytes : List ℕ) (r : Result (Vec ℕ Global) Refusal) → Consumes left left' bytes × IsAtEnd left' → Gives r (InputComesTo ComeToLines bytes) → Gives r (OverPlain left)
+plain_told left left' bytes r read h =
+    gives_map r (InputComesTo ComeToLines bytes) (OverPlain left) (λ o comes. of_input (λ (bs : List ℕ). InputComesTo ComeToLines bs o) left left' bytes read comes) h
 
 -- ---- texts
 

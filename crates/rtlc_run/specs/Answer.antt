@@ -17,7 +17,9 @@ use Rattle.md_list.specs.Listing.{ListComes}
 use Rattle.md_forms.specs.declared.form.Entry.{Entry}
 use Rattle.rtx_tree.specs.Limit.{most_forms}
 use Rattle.md_named.specs.Named.{source_refused, FormsCome}
+use Rattle.func_input.specs.Input.{InputComesTo}
 use Rattle.func_input.specs.Outcome.{Outcome}
+use Rattle.plain_text.specs.Plain.{ComeToLines}
 use Rattle.func_image.specs.func_text.Code.{IsUnnamed}
 use Rattle.rtlc_words.specs.declared.command.Told.{Told}
 use Rattle.rtlc_words.specs.declared.command.Told.TheVariants as telling
@@ -62,10 +64,12 @@ abbrev pub OverInput : Told → Option (List ℕ) → List Entry → Outcome →
 OverInput t input forms outcome = IfSome input (λ bytes. ToldComes t forms bytes outcome)
 
 -- What a command comes to, by what is known of the bytes of the files and of the input. A list and a
--- generated function do not look at the input.
+-- generated function do not look at the input, and which functions are plain not at a description.
 abbrev pub CommandComes : Source → Option (List ℕ) → Command → Outcome → Type 0
 CommandComes files input (commands.Over name t) outcome =
     ByForms (OverInput t input) files (described name) outcome
+CommandComes files input commands.Plain outcome =
+    IfSome input (λ bytes. InputComesTo ComeToLines bytes outcome)
 CommandComes files input (commands.Listed name) outcome =
     (r : Result (List ℕ) ListRefusal) × ListComes files (described name) r ×
     (outcome ≡ list_told r)
@@ -80,25 +84,29 @@ pub data Answers (words : List (List ℕ)) (files : Source) (input : Option (Lis
   spoken : (c : Command) (outcome : Outcome) → command_of words ≡ Some c →
       CommandComes files input c outcome → Answers words files input outcome
 
--- the name of the description of a command
+-- the name of the description of a command; the empty one where it has none
 abbrev pub description_of : Command → List ℕ
 description_of (commands.Over name t) = described name
+description_of commands.Plain = []
 description_of (commands.Listed name) = described name
 description_of (commands.Made name number) = described name
 
 -- whether the input is read
 abbrev pub reads_input : Option Command → Bool
 reads_input (Some (commands.Over name t)) = true
+reads_input (Some commands.Plain) = true
 reads_input _ = false
 
 -- whether files may be asked
 abbrev pub reads_files : Option Command → Bool
 reads_files None = false
+reads_files (Some commands.Plain) = false
 reads_files (Some c) = true
 
 -- enough is known for one answer
 abbrev pub IsKnownFor : Source → Option (List ℕ) → Option Command → Type 0
 IsKnownFor files input None = Unit {0}
+IsKnownFor files input (Some commands.Plain) = IsSome input
 IsKnownFor files input (Some (commands.Listed name)) = IsKnown files (described name)
 IsKnownFor files input (Some (commands.Made name number)) = IsKnown files (described name)
 IsKnownFor files input (Some (commands.Over name t)) = IsKnown files (described name) × IsSome input
@@ -112,12 +120,14 @@ IsMissing _ bytes = ⊥
 abbrev pub IsMisused : Option Command → Option (List ℕ) → Type 0
 IsMisused None input = Unit {0}
 IsMisused (Some (commands.Over name t)) input = IfSome input (λ bytes. IsMissing t bytes)
+IsMisused (Some commands.Plain) input = ⊥
 IsMisused (Some (commands.Listed name)) input = ⊥
 IsMisused (Some (commands.Made name number)) input = ⊥
 
 -- the names that files may be asked for
 abbrev pub MayBeAsked : Source → Option Command → List (List ℕ) → Type 0
 MayBeAsked files None names = names ≡ []
+MayBeAsked files (Some commands.Plain) names = names ≡ []
 MayBeAsked files (Some c) names = AreNamed files (description_of c) names
 
 -- ---- faults
@@ -134,7 +144,10 @@ pub data ReadFails (files : Source) (faults faults' input input' : ℕ) (asked a
   of_input : (name : Option (List ℕ)) (t : Told) (forms : List Entry) →
       FormsCome files (described name) (Ok forms) → Rose input input' → faults' ≡ faults →
       ReadFails files faults faults' input input' asked asked' (Some (commands.Over name t))
-  of_files : (c : Command) → AsksBy (FaultsAt files (description_of c)) asked asked' →
+  of_plain : Rose input input' → faults' ≡ faults →
+      ReadFails files faults faults' input input' asked asked' (Some commands.Plain)
+  of_files : (c : Command) → reads_files (Some c) ≡ true →
+      AsksBy (FaultsAt files (description_of c)) asked asked' →
       Rose faults faults' → input' ≡ input →
       ReadFails files faults faults' input input' asked asked' (Some c)
 

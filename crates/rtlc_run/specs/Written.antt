@@ -10,6 +10,7 @@ use Rattle.md_list.specs.Listing.{ListComes}
 use Rattle.md_named.specs.Named.{FormsCome}
 use Rattle.func_input.specs.Input.{IsRead, IsInput}
 use Rattle.pass_name.specs.declared.road.Road.{Road}
+use Rattle.plain_text.specs.Plain.{text_of}
 use Rattle.func_image.specs.DoWords.{DoesInWords}
 use Rattle.func_image.specs.func_text.Same.{DoesSame, DoesSameFramed}
 use Rattle.rtlc_words.specs.declared.command.Command.{Command}
@@ -51,6 +52,9 @@ abbrev pub Means : Source → Option (List ℕ) → Command → List ℕ → Typ
 Means files input (commands.Over name t) text =
     IfSome input (λ bytes. (forms : List Entry) × FormsCome files (described name) (Ok forms) ×
     Tells t forms bytes text)
+Means files input commands.Plain text =
+    IfSome input (λ bytes. (functions : List Function) × IsInput bytes functions ×
+    (text ≡ text_of functions))
 Means files input (commands.Listed name) text = ListComes files (described name) (Ok text)
 Means files input (commands.Made name number) text =
     (forms : List Entry) × FormsCome files (described name) (Ok forms) × TellsSummary forms number text
@@ -67,6 +71,9 @@ HasText files input (commands.Over name t) =
     IsKnown files (described name) × (forms : List Entry) ×
     FormsCome files (described name) (Ok forms) × (bytes : List ℕ) × (input ≡ Some bytes) ×
     (functions : List Function) × IsInput bytes functions × HaveText t forms functions
+HasText files input commands.Plain =
+    (bytes : List ℕ) × (input ≡ Some bytes) ×
+    (functions : List Function) × IsInput bytes functions
 HasText files input (commands.Listed name) =
     IsKnown files (described name) × (text : List ℕ) × ListComes files (described name) (Ok text)
 HasText files input (commands.Made name number) =

@@ -9,7 +9,8 @@ ghost use Rattle.rv_text.specs.declared.line.CodeItem.{CodeItem};
 ghost use Rattle.run_refusal.specs.Refusals.{has_values};
 ghost use Rattle.run_refusal.specs.declared.refusal.Refusal.TheVariants as refusal;
 ghost use Rattle.rtx_tree.specs.Limit.{most_bytes};
-ghost use Rattle.func_input.specs.Input.{IsRead};
+ghost use Rattle.func_input.specs.Input.{InputComesTo, IsRead};
+ghost use Rattle.plain_text.specs.Plain.{ComeToLines};
 ghost use Rattle.func_input.specs.Outcome.{Outcome};
 ghost use Rattle.pass_name.specs.declared.road.Road.{Road};
 ghost use Rattle.func_image.specs.Image.{ImageComes};
@@ -44,6 +45,7 @@ use md_list::{ListRefusal, list};
 use md_named::{description_of, source_refused};
 use md_source::SHIPPED;
 use pass_name::{Pass, Road};
+use plain_text::plain_of;
 use rtlc_words::{Command, Told, command_of};
 use rtx_tree::{Limit, MOST_BYTES, MOST_FORMS, Name};
 use run_refusal::{MEMORY_LINE, Refusal, fixed_line, status};
@@ -188,6 +190,30 @@ fn made_of<S: Source>(
     made(alloc, description, &bytes, told)
 }
 
+/// Which of the functions among bytes are of the plain profile.
+fn plain_lines(alloc: Global, bytes: &[u8]) -> Result<Vec<u8>, Refusal>
+    requires { length bytes.now ≤ most_bytes }
+    ensures gives { Gives result (InputComesTo ComeToLines bytes.now) }
+    ensures own { IsOwn result }
+    ensures read { result ≢ Err Refusal.ReadFault }
+{
+    plain_of(alloc, bytes)
+}
+
+/// Which functions of the input are of the plain profile.
+fn told_plain<S: Source>(alloc: Global, input: &mut S) -> Result<Vec<u8>, Refusal>
+    ensures gives { (known : Known) →
+        Gives result (CommandComes known (S.left input.old) commands.Plain) }
+    ensures own { IsOwn result }
+    ensures fault { result ≡ Err Refusal.ReadFault →
+        Rose (S.fault_count input.old) (S.fault_count input.new) }
+    ensures quiet { result ≢ Err Refusal.ReadFault →
+        S.fault_count input.new ≡ S.fault_count input.old }
+{
+    let bytes = input_bytes(alloc, input)?;
+    plain_lines(alloc, &bytes)
+}
+
 fn list_refused(refusal: ListRefusal) -> Refusal
     ensures { result ≡ spec.list_refused refusal }
 {
@@ -320,6 +346,7 @@ fn produced<F: Files, S: Source>(
 {
     match command {
         Command::Over { description, told } => made_by(alloc, files, input, &description, &told),
+        Command::Plain => told_plain(alloc, input),
         Command::Listed { description } => listed(alloc, files, &description),
         Command::Made {
             description,
@@ -468,8 +495,8 @@ fn report<E: Sink>(alloc: Global, errors: &mut E, refusal: Refusal) -> u8
 }
 
 /// The whole program. `words` are those after the program's name: `asm`, `reuse`, `list`, `recog`,
-/// `dump PASS`, `eval NAME STEPS` with up to eight numbers, `make N`, or `image`, and `--md NAME` at
-/// most once.
+/// `dump PASS`, `eval NAME STEPS` with up to eight numbers, `make N`, `image`, or `plain`, and, but
+/// for `plain`, `--md NAME` at most once.
 /// `files` are asked for a description that is named and for what it includes, `input` is read by
 /// all but `list` and `make`. The text is written to `output`, the line of a refusal to `errors`,
 /// and the exit status is given: 0, or that of the [`Refusal`].

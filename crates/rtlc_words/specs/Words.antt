@@ -143,6 +143,11 @@ generated description (word ∷ []) =
     option_map (λ number. commands.Made description number) (made_in word)
 generated description _ = None
 
+-- which functions of the input are of the plain profile is told; no description is named
+abbrev pub plain : Option (List ℕ) → List (List ℕ) → Option Command
+plain None [] = Some commands.Plain
+plain _ _ = None
+
 -- each command's name, and what it makes of a description and of positional words
 abbrev pub table : List (List ℕ × (Option (List ℕ) → List (List ℕ) → Option Command))
 table =
@@ -154,6 +159,7 @@ table =
     ∷ (codes "make", generated)
     ∷ (codes "image", over (only told.Words))
     ∷ (codes "reuse", over (only (told.Lines Reusing)))
+    ∷ (codes "plain", plain)
     ∷ []
 
 abbrev pub command_by : List ℕ → Option (List ℕ) → List (List ℕ) → Option Command

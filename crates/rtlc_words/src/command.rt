@@ -53,6 +53,9 @@ pub enum Command {
         /// What is told.
         told: Told,
     },
+    /// The functions of the input that are of the plain profile are told. No description is looked
+    /// at.
+    Plain,
     /// The forms of a description are listed.
     Listed {
         /// The description.
@@ -161,6 +164,17 @@ fn listed(
     }
 }
 
+/// The command that tells which functions are of the plain profile. It takes no description.
+fn plain(description: Option<&str>, words: &[&str]) -> Option<Command>
+    ensures { result ≡ spec.plain (option_map (λ s.
+        s.now) description.entry) (words_of words.now) }
+{
+    match (description, words) {
+        (None, []) => Some(Command::Plain),
+        _ => None,
+    }
+}
+
 /// The command that generates the function with a number, where there is a number.
 fn made_with(
     alloc: Global,
@@ -230,6 +244,7 @@ fn command_by(
                 words,
             ),
         ),
+        "plain" => Ok(plain(description, words)),
         _ => Ok(None),
     }
 }

@@ -87,7 +87,8 @@ fn program<'a>(alloc: Global) -> Result<Command<'a>, AllocError>
     let program = with_two(bare(alloc), alloc, "asm", "list")?;
     let program = with_two(program, alloc, "recog", "dump")?;
     let program = with_two(program, alloc, "eval", "make")?;
-    with_two(program, alloc, "image", "reuse")
+    let program = with_two(program, alloc, "image", "reuse")?;
+    with_command(program, alloc, "plain")
 }
 
 /// An error is the want of memory, or says that the words are refused.

@@ -35,7 +35,7 @@ returns-in_err-description-clause-faulted g c =
     let p = err_from_is_err_and c.from_residual.result c.from_residual.ensures.1 in
     λ read known agrees.
     let failed = ap (λ (e : Refusal). Err e) (err_back c.from_residual.result p.0 c.in_err-description.field-0.0 refusal.ReadFault p.1 p.2 read) in
-    ReadFails.of_files (commands.Over c.args.name.now c.args.told.now) (rw c.described.ensures at (c.in_err-description.ensures.faulted failed known agrees)) (c.in_err-description.ensures.fault failed) refl
+    ReadFails.of_files (commands.Over c.args.name.now c.args.told.now) refl (rw c.described.ensures at (c.in_err-description.ensures.faulted failed known agrees)) (c.in_err-description.ensures.fault failed) refl
 
 pub returns-clause-faulted : goal.returns-clause-faulted
 returns-clause-faulted g c = λ read known agrees.

@@ -1,0 +1,9 @@
+pub mod TwoRegisters
+pub mod WithConstant
+pub mod OneRegister
+pub mod Values
+pub mod ConstantValues
+pub mod OneRegisterTwice
+pub mod Pairs
+pub mod ConstantPairs
+pub mod Constants

@@ -1,0 +1,4 @@
+pub mod Same
+pub mod Wholes
+pub mod Tests
+pub mod Fronts

@@ -1,0 +1,4 @@
+pub mod EdgeLaws
+pub mod FilledLaws
+pub mod PushedLaws
+pub mod InsertedLaws

@@ -1,0 +1,5 @@
+pub mod Changes
+pub mod Edges
+pub mod Numbers
+pub mod Registers
+pub mod machine

@@ -76,6 +76,7 @@ fn answer(alloc: Global, table: &str, given: &[u8], input: &[u8], told: &mut Tol
         || text_cases::answer(alloc, table, input, told)
         || cond_cases::answer(alloc, table, given, input, told)
         || desc_cases::answer(alloc, table, given, input, told)
+        || dfa_cases::answer(alloc, table, given, input, told)
         || code_cases::answer(alloc, table, given, input, told)
         || word_cases::answer(alloc, table, input, told)
         || term_cases::answer(alloc, table, given, input, told)

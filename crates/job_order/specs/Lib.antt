@@ -1,0 +1,4 @@
+pub mod Jobs
+pub mod Slots
+pub mod Order
+pub mod machine

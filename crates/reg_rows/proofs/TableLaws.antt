@@ -14,8 +14,8 @@ has_at-none rows none at reg =
       | inr w ↦ ap (λ o. at_row o reg) w.1
     ]
 
-pub IsTable-zero : (width : ℕ) (rows : List (List ℕ)) → All (λ row. length row ≡ width) rows → All (λ row. sum row ≡ 0) rows → IsTable width rows
-IsTable-zero width rows widths zero = record { widths = widths; fits = λ k d h. (let z : sum (get_or rows k d) ≡ 0 = zero k d h in omega arith) }
+pub IsTable-zero : (width : ℕ) (rows : List (List ℕ)) → width ≤ 2 ^ 26 → All (λ row. length row ≡ width) rows → All (λ row. sum row ≡ 0) rows → IsTable width rows
+IsTable-zero width rows small widths zero = record { small = small; widths = widths; fits = λ k d h. (let z : sum (get_or rows k d) ≡ 0 = zero k d h in omega arith) }
 
 -- a table's total has a bound
 pub total-le : (width : ℕ) (rows : List (List ℕ)) → IsTable width rows → total rows ≤ length rows * (width * (2 ^ 64 - 1))

@@ -14,7 +14,8 @@ has_at rows at reg = at_row (slice_get rows at) reg
 abbrev pub total : List (List ℕ) → ℕ
 total rows = sum_by sum rows
 
--- each row has so many words of 64 bits
+-- each row has so many words of 64 bits, and no more than numbers of 32 bits ask for
 pub record IsTable (width : ℕ) (rows : List (List ℕ)) : Type 0 where
+  pub small : width ≤ 2 ^ 26
   pub widths : All (λ row. length row ≡ width) rows
   pub fits : All (λ row. sum row ≤ width * (2 ^ 64 - 1)) rows

@@ -23,11 +23,12 @@ impl Model for RegRow {
     ghost view = { λ row. row.words.items };
 }
 
-/// A width from `least` on with room for the registers.
+/// A width from `least` on with room for the registers: no greater than all numbers of 32 bits
+/// ask for.
 pub fn width_of(regs: &[u32], least: usize) -> usize
-    requires { least ≤ 2 ^ 32 }
+    requires { least ≤ 2 ^ 26 }
     ensures from { least ≤ result }
-    ensures small { result ≤ 2 ^ 32 }
+    ensures small { result ≤ 2 ^ 26 }
     ensures room { All (λ reg. reg < 64 * result) regs.now }
 {
     let mut width = least;

@@ -1,5 +1,5 @@
 //! Tables of rows of one width.
-ghost use Rattle.std.specs.Prelude.{◌≡◌, ℕ, ◌<◌, ◌≤◌, ◌==◌, ◌||◌, ◌&&◌, true, false, length, vec_len, All, IfOk};
+ghost use Rattle.std.specs.Prelude.{◌≡◌, ℕ, ◌^◌, ◌<◌, ◌≤◌, ◌==◌, ◌||◌, ◌&&◌, true, false, length, vec_len, All, IfOk};
 ghost use Rattle.reg_rows.specs.Row as row;
 ghost use Rattle.reg_rows.specs.Table.{has_at, total, IsTable};
 
@@ -9,6 +9,7 @@ use std::alloc::Global;
 
 /// `count` rows of no registers, each with room for 64 in each of `width` words.
 pub fn empty_rows(alloc: Global, count: usize, width: usize) -> Result<Vec<RegRow>, Memory>
+    requires { width ≤ 2 ^ 26 }
     ensures long { IfOk result (λ rows. vec_len rows ≡ count) }
     ensures none { IfOk result (λ rows. (at reg : ℕ) → has_at rows.items at reg ≡ false) }
     ensures table { IfOk result (λ rows. IsTable width rows.items) }

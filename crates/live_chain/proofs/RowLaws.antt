@@ -51,7 +51,7 @@ drop_at [] k l = absurd (omega arith)
 drop_at (x ∷ xs) zero l = (x, xs, refl)
 drop_at (x ∷ xs) (suc k) l = drop_at xs k (omega arith)
 
-get_dropped : {X : Type 0} (xs : List X) (k n : ℕ) → slice_get (drop k xs) n ≡ slice_get xs (k + n)
+pub get_dropped : {X : Type 0} (xs : List X) (k n : ℕ) → slice_get (drop k xs) n ≡ slice_get xs (k + n)
 get_dropped xs zero n = ap (slice_get xs) (omega arith)
 get_dropped [] (suc k) n = refl
 get_dropped (x ∷ xs) (suc k) n = get_dropped xs k n ∙ ap (slice_get (x ∷ xs)) {x = suc (k + n)} {y = suc k + n} (omega arith)

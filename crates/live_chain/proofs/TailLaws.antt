@@ -24,7 +24,7 @@ use Rattle.live_chain.proofs.MoveLaws.{get_ahead, get_from}
 use Rattle.live_chain.proofs.FlowLaws.{flows_to, flows_at, falls_by, not_false, both_left, both_right, returns_not, has_first}
 use Rattle.live_chain.proofs.PassLaws.{IsAt, at_first, at_rest}
 use Rattle.live_chain.proofs.CrossLaws.{uses_inner, place_one}
-use Rattle.live_chain.proofs.RowLaws.{get_dropped, last_of}
+use Rattle.live_chain.proofs.RowLaws.{get_dropped}
 use Rattle.live_chain.proofs.WideLaws.{alike_behind, named_behind, leads_wide, flow_wide, range_parts, range_step, wide_rows, wide_stays}
 
 -- ---- what two windows ask for and define, one behind the other

@@ -4,7 +4,6 @@ use Rattle.std.specs.Prelude.{slice_get, slice_range}
 use Rattle.std.specs.List.{list_any, list_all}
 use Rattle.std.proofs.lemmas.Bool.{or_cases, or_left, or_right, and_from, and_parts, false≢true}
 use lib.Seq.{take-nil}
-use Rattle.std.proofs.lemmas.List.{length-append, length-drop, length-take-le}
 use Rattle.std.proofs.lemmas.List.Folds.{list_any-append}
 use Rattle.std.proofs.lemmas.Option.{same_Some}
 use Rattle.rtx_tree.specs.declared.function.Insn.{Insn}

@@ -1,9 +1,8 @@
 -- Rows that are kept where a window is replaced.
-use Rattle.std.proofs.Common.{◌≡◌, ℕ, ◌+◌, ◌<◌, ◌≤◌, ◌^◌, ◌++◌, length, take, drop, arith, Bool, true, List, Option, Some, None, Result, Ok, Err, sym, ap, subst, ◌∙◌}
+use Rattle.std.proofs.Common.{◌≡◌, ℕ, ◌+◌, ◌≤◌, length, arith, Bool, true, List, Option, Some, None, Result, Ok, Err, sym, ap, subst, ◌∙◌}
 use Rattle.std.specs.Prelude.{IfSome, IfOk, IsSome, MatchOption}
 use Rattle.std.proofs.lemmas.Bool.{false≢true}
 use Rattle.std.specs.List.{splice}
-use Rattle.std.proofs.lemmas.List.Elements.{All-append, All-take, All-drop}
 use Rattle.plain_data.specs.declared.memory.Memory.{Memory}
 use Rattle.rtx_tree.specs.declared.function.Insn.{Insn}
 use Rattle.rtx_tree.specs.declared.function.Function.{Function}
@@ -15,10 +14,10 @@ use Rattle.live_chain.specs.Narrow.{AreNarrow}
 use Rattle.live_chain.specs.Rows.{AreRowsFor}
 
 -- what holds of rows that are found, if rows are
-pub on_both : (P Q R : WindowRows → Type 0) (r : Result (Option WindowRows) Memory) → ((inside : WindowRows) → P inside → Q inside → R inside) → IfOk r (λ o. IfSome o P) → IfOk r (λ o. IfSome o Q) → IfOk r (λ o. IfSome o R)
-on_both P Q R (Ok None) each one two = one
-on_both P Q R (Ok (Some inside)) each one two = each inside one two
-on_both P Q R (Err e) each one two = one
+pub on_inside : (P Q : WindowRows → Type 0) (r : Result (Option WindowRows) Memory) → ((inside : WindowRows) → P inside → Q inside) → IfOk r (λ o. IfSome o P) → IfOk r (λ o. IfSome o Q)
+on_inside P Q (Ok None) each all = all
+on_inside P Q (Ok (Some inside)) each all = each inside all
+on_inside P Q (Err e) each all = all
 
 -- the rows of the function with others in the place of a window, where they are known
 pub live_joined : (f g : Function) (first end : ℕ) (shown new : List Insn) (rows taken result : Option (List (List ℕ))) (inside : Option WindowRows) →
@@ -65,18 +64,7 @@ pub up_to_window : (f : Function) (first end : ℕ) (new : List Insn) (inside : 
 up_to_window f first end new None from is made = omega (arith, is)
 up_to_window f first end new (Some rows) from is made = omega (arith, is, made.order)
 
--- narrow rows for a window, put in the place of those that are known
-pub narrow_spliced : (rows inside : List (List ℕ)) (from end : ℕ) → AreNarrow rows → AreNarrow inside → AreNarrow (splice rows from end inside)
-narrow_spliced rows inside from end before here =
-    let P = λ (row : List ℕ). length row ≤ 2 ^ 26 in
-    All-append P (take from rows) (inside ++ drop end rows) (All-take P from rows before) (All-append P inside (drop end rows) here (All-drop P end rows before))
-
--- what is made for a window is narrow
-pub narrow_made : (f : Function) (first end : ℕ) (new : List Insn) (inside : Option WindowRows) → IfSome inside (AreRowsFor f first end new) → IfSome inside (λ inside. AreNarrow inside.rows)
-narrow_made f first end new None made = tt
-narrow_made f first end new (Some inside) made = made.narrow
-
--- the rows stay narrow
-pub narrow_put : (rows taken result : Option (List (List ℕ))) (inside : Option WindowRows) → taken ≡ rows → IfSome inside (λ inside. AreNarrow inside.rows) → IfSome rows AreNarrow →
-    (IfSome inside (λ inside. AreNarrow inside.rows) → IfSome taken AreNarrow → IfSome result AreNarrow) → IfSome result AreNarrow
-narrow_put rows taken result inside same here before step = step here (subst (λ rows. IfSome rows AreNarrow) (sym same) before)
+-- rows that are known are narrow
+pub narrow_known : (f : Function) (rows : Option (List (List ℕ))) → IfSome rows (AreLiveRows f) → IfSome rows AreNarrow
+narrow_known f None known = tt
+narrow_known f (Some rows) known = known.narrow

@@ -1,9 +1,10 @@
 -- Windows with what stands behind them: what it asks for is live in front of it, whichever of two windows stands there.
-use Rattle.std.proofs.Common.{◌≡◌, ◌↔◌, ℕ, zero, suc, ◌+◌, ◌-◌, ◌<◌, ◌≤◌, Bool, true, false, ◌||◌, ◌&&◌, not, List, [], ◌∷◌, ◌++◌, length, take, drop, drop-drop, append-nil, append_assoc, Option, Some, None, inl, inr, ◌⊎◌, refl, sym, ap, subst, ◌∙◌, arith}
+use Rattle.std.proofs.Common.{◌≡◌, ◌↔◌, ℕ, zero, suc, ◌+◌, ◌-◌, ◌<◌, ◌≤◌, ◌^◌, Bool, true, false, ◌||◌, ◌&&◌, not, List, [], ◌∷◌, ◌++◌, length, take, drop, drop-drop, append-nil, append_assoc, Option, Some, None, inl, inr, ◌⊎◌, refl, sym, ap, subst, ◌∙◌, arith}
 use Rattle.std.specs.Prelude.{slice_get, slice_range}
 use Rattle.std.specs.List.{list_any, list_all}
 use Rattle.std.proofs.lemmas.Bool.{or_cases, or_left, or_right, and_from, and_parts, false≢true, cases_lt}
 use Rattle.std.proofs.lemmas.List.{length-append, length-drop, length-take-le, take-append-drop}
+use Rattle.std.proofs.lemmas.List.Elements.{All-append, All-take, All-drop}
 use Rattle.std.proofs.lemmas.List.Folds.{list_any-append, list_all-append}
 use Rattle.std.proofs.lemmas.Option.{none-some, same_Some, slice_get_within}
 use Rattle.rtx_tree.specs.declared.function.Insn.{Insn}
@@ -16,7 +17,6 @@ use Rattle.rtl_func.specs.Paths.{has_place, leads}
 use Rattle.live.specs.Live.{IsLive, AtEnd, AtUse, Passing, IsLiveAfter, AreLiveRows, uses_in}
 use Rattle.new_insns.specs.Replaced.{window, replaced}
 use Rattle.live_chain.specs.declared.kept.WindowRows.{WindowRows}
-use Rattle.live_chain.specs.Narrow.{AreNarrow}
 use Rattle.live_chain.specs.Stays.{StaysBefore}
 use Rattle.live_chain.specs.Rows.{AreRowsFor}
 use Rattle.live_chain.specs.machine.Window.{asks_for, defines_in, names_in, is_inner, leads_last, passes, is_live_before, is_settled, IsAlike, AreLikeEnds, AreRowsOf, AreInside, AreFound}
@@ -24,7 +24,7 @@ use Rattle.live_chain.proofs.MoveLaws.{get_ahead, get_from}
 use Rattle.live_chain.proofs.FlowLaws.{flows_to, flows_at, falls_by, not_false, both_left, both_right, returns_not, has_first}
 use Rattle.live_chain.proofs.PassLaws.{IsAt, at_first, at_rest}
 use Rattle.live_chain.proofs.CrossLaws.{uses_inner, place_one}
-use Rattle.live_chain.proofs.RowLaws.{get_dropped, last_of}
+use Rattle.live_chain.proofs.RowLaws.{get_dropped}
 use Rattle.live_chain.proofs.WideLaws.{alike_behind, named_behind, leads_wide, flow_wide, range_parts, range_step, wide_rows, wide_stays}
 
 -- ---- what two windows ask for and define, one behind the other
@@ -246,6 +246,7 @@ module _ (f : Function) (first end : ℕ) (old new : List Insn) (behind : ℕ �
     passing = are.passing;
     demands = demands;
     rows = are.rows;
+    narrow = are.narrow;
   }
     where
       demands : (reg : ℕ) → IsAlike (front ++ old) (front ++ new) behind reg
@@ -367,8 +368,12 @@ module _ (f : Function) (first end : ℕ) (old new : List Insn) (behind : ℕ �
       passing = are.passing;
       demands = demands;
       rows = subst (λ (w : List Insn). AreRowsOf w beyond (inside.rows ++ rest)) (append_assoc front new tail) (AreRowsOf-append (front ++ new) tail behind beyond inside.rows rest behind_is are.rows rows_tail);
+      narrow = All-append P inside.rows rest are.narrow (All-take P (are.to - end) (drop end rows) (All-drop P end rows exact.narrow));
     }
       where
+        P : List ℕ → Type 0
+        P row = length row ≤ 2 ^ 26
+
         demands : (reg : ℕ) → IsAlike (front ++ (old ++ tail)) (front ++ (new ++ tail)) beyond reg
         demands reg =
             elim (are.demands reg) [
@@ -413,13 +418,12 @@ module _ (f : Function) (first end : ℕ) (old new : List Insn) (behind : ℕ �
 -- rows that are found are rows for the window
 pub found_made : (f : Function) (first end : ℕ) (old new : List Insn) (rows : List (List ℕ)) (behind : ℕ → Bool) (inside : WindowRows) → first < end → end ≤ length f.insns →
     AreLiveRows f rows → ((reg : ℕ) → (behind reg ≡ true) ↔ IsLiveAfter f reg (end - 1)) →
-    old ≡ window f first end → AreLikeEnds old new → AreFound f.insns first end old new behind inside → AreNarrow inside.rows → AreRowsFor f first end new inside
-found_made f first end old new rows behind inside order fits exact is_behind is ends are narrow = record {
+    old ≡ window f first end → AreLikeEnds old new → AreFound f.insns first end old new behind inside → AreRowsFor f first end new inside
+found_made f first end old new rows behind inside order fits exact is_behind is ends are = record {
   order = are.order;
   long = long_new f first end old new behind inside order fits is_behind is ends are;
   rows = λ others too. found_rows f first end old new behind inside order fits is_behind is ends are others too;
   stays = found_stays f first end old new behind inside order fits is_behind is ends are rows exact;
-  narrow = narrow;
 }
 
 -- ---- one place more

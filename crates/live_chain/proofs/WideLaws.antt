@@ -4,7 +4,6 @@ use Rattle.std.specs.Prelude.{slice_get, slice_range}
 use Rattle.std.specs.List.{list_any, list_all}
 use Rattle.std.proofs.lemmas.Bool.{or_cases, or_left, or_right, and_from, and_parts, false≢true}
 use lib.Seq.{take-nil}
-use Rattle.std.proofs.lemmas.List.{length-append, length-drop, length-take-le}
 use Rattle.std.proofs.lemmas.List.Folds.{list_any-append}
 use Rattle.std.proofs.lemmas.Option.{same_Some}
 use Rattle.rtx_tree.specs.declared.function.Insn.{Insn}
@@ -183,9 +182,9 @@ module _ (f : Function) (first end : ℕ) (old new : List Insn) (rows : List (Li
   -- the rows of the function with the new window, by those of the new window and of what stands in front of it
   pub wide_rows : AreLiveRows (replaced f first end new) (take inside.from rows ++ (inside.rows ++ drop end rows))
   wide_rows = subst (λ g. AreLiveRows g (take inside.from rows ++ (inside.rows ++ drop end rows))) (wide_replaced f inside.from first end new are.order)
-      (rows_exact f inside.from end (front ++ new) rows inside.rows live_behind (omega (arith, order, are.order)) fits exact is_behind outside are.rows)
+      (rows_exact f inside.from end (front ++ new) rows inside.rows live_behind (omega (arith, order, are.order)) fits exact is_behind outside are.rows are.narrow)
 
   -- what is live in front of the first of them stays
   pub wide_stays : StaysBefore f (replaced f first end new) inside.from
   wide_stays = subst (λ g. StaysBefore f g inside.from) (wide_replaced f inside.from first end new are.order)
-      (stays_before f inside.from end (front ++ new) rows inside.rows live_behind (omega (arith, order, are.order)) fits exact is_behind outside are.rows)
+      (stays_before f inside.from end (front ++ new) rows inside.rows live_behind (omega (arith, order, are.order)) fits exact is_behind outside are.rows are.narrow)

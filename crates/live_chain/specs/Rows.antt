@@ -7,7 +7,6 @@ use Rattle.live.specs.Live.{AreLiveRows}
 use Rattle.live_chain.specs.declared.kept.WindowRows.{WindowRows}
 use Rattle.new_insns.specs.Replaced.{replaced}
 use Rattle.live_chain.specs.Stays.{StaysBefore}
-use Rattle.live_chain.specs.Narrow.{AreNarrow}
 
 -- put in the place of those from their first place up to the window's end, they make of the rows of
 -- a function those of the function with new instructions in the window's place; what is live in
@@ -19,4 +18,3 @@ pub record AreRowsFor (f : Function) (first end : ℕ) (new : List Insn) (inside
   pub rows : (rows : List (List ℕ)) → AreLiveRows f rows →
       AreLiveRows (replaced f first end new) (splice rows inside.from end inside.rows)
   pub stays : StaysBefore f (replaced f first end new) inside.from
-  pub narrow : AreNarrow inside.rows

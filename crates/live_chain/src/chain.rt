@@ -4,7 +4,6 @@ ghost use Rattle.std.specs.Prelude.{IfOk, IfSome, OnOk, OnErr};
 ghost use Rattle.rtx_tree.specs.RegSet.{has_reg};
 ghost use Rattle.live.specs.Live.{AreLiveAfter, AreLiveRows, IsLive, IsLiveAfter};
 ghost use Rattle.new_insns.specs.Replaced.{replaced, window};
-ghost use Rattle.live_chain.specs.Narrow.{AreNarrow};
 ghost use Rattle.live_chain.specs.Rows.{AreRowsFor};
 ghost use Rattle.live_chain.specs.Stays.{StaysBefore};
 ghost use Rattle.rtl_chain.specs.Counts as counts;
@@ -69,7 +68,6 @@ fn rows_anew(
     insns: &mut GapList<Insn>,
 ) -> Result<GapList<RegRow>, Memory>
     ensures rows { IfOk result (AreLiveRows (with_chain frame.old insns.old)) }
-    ensures narrow { IfOk result AreNarrow }
     ensures same { with_chain frame.new insns.new ≡ with_chain frame.old insns.old }
 {
     frame.insns = insns.take_all(alloc)?;

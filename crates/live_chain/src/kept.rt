@@ -50,8 +50,7 @@ fn rows_from(
     requires within { end ≤ length insns.now }
     requires short { length insns.now < 2 ^ 32 }
     requires narrow { length behind.now ≤ 2 ^ 26 }
-    ensures found { IfOk result (λ inside. IfSome inside (AreFound insns.now first end old.now new.now (has behind.now))) }
-    ensures narrow { IfOk result (λ inside. IfSome inside (λ inside. AreNarrow inside.rows)) }
+    ensures { IfOk result (λ inside. IfSome inside (AreFound insns.now first end old.now new.now (has behind.now))) }
 {
     let differing = differing_between(alloc, old, new, behind)?;
     let to = tail_end(insns, end, old, new);
@@ -145,12 +144,10 @@ pub fn rows_joined(
 ) -> Option<GapList<RegRow>>
     requires order { IfSome inside (λ inside. inside.from ≤ end) }
     requires within { IfSome rows (λ rows. end ≤ length rows) }
-    ensures live { (f : Function) →
+    ensures { (f : Function) →
         IfSome inside (λ inside. IfSome rows (λ rows.
         AreLiveRows f (splice rows inside.from end inside.rows))) →
         IfSome result (AreLiveRows f) }
-    ensures narrow { IfSome inside (λ inside. AreNarrow inside.rows) → IfSome rows AreNarrow →
-        IfSome result AreNarrow }
 {
     let mut rows = rows?;
     let WindowRows { from, rows: inside } = inside?;
@@ -180,12 +177,10 @@ pub fn rows_put(
 ) -> Option<GapList<RegRow>>
     requires shorter { IfSome inside (λ inside. inside.from + length inside.rows ≤ end) }
     requires within { IfSome rows (λ rows. end ≤ length rows) }
-    ensures live { (f : Function) →
+    ensures { (f : Function) →
         IfSome inside (λ inside. IfSome rows (λ rows.
         AreLiveRows f (splice rows inside.from end inside.rows))) →
         IfSome result (AreLiveRows f) }
-    ensures narrow { IfSome inside (λ inside. AreNarrow inside.rows) → IfSome rows AreNarrow →
-        IfSome result AreNarrow }
 {
     let mut rows = rows?;
     let WindowRows { from, rows: inside } = inside?;

@@ -9,6 +9,7 @@ use Rattle.rtx_tree.specs.Patterns.{is_label_kind}
 use Rattle.rtx_tree.specs.RegSet.{has_reg}
 use Rattle.rv_regs.specs.Registers.{kept_registers}
 use Rattle.live_chain.specs.declared.kept.WindowRows.{WindowRows}
+use Rattle.live_chain.specs.Narrow.{AreNarrow}
 use Rattle.reg_uses.specs.Uses.{insn_uses, insn_defines, insn_sets, is_return}
 use Rattle.rtl_func.specs.declared.flow.Flow.{Flow}
 use Rattle.rtl_func.specs.declared.flow.Flow.TheVariants.{Falls}
@@ -113,6 +114,7 @@ pub record AreInside (insns : List Insn) (first : ℕ) (old new : List Insn) (be
   pub passing : list_all passes (slice_range insns inside.from first) ≡ true
   pub demands : (reg : ℕ) → IsAlike (slice_range insns inside.from first ++ old) (slice_range insns inside.from first ++ new) behind reg
   pub rows : AreRowsOf (slice_range insns inside.from first ++ new) behind inside.rows
+  pub narrow : AreNarrow inside.rows
 
 -- rows of a new window, and of what stands in front of it from where on each register in which the
 -- old one and it are not alike is used or defined there, or settled by what stands behind
@@ -125,3 +127,4 @@ pub record AreFound (insns : List Insn) (first end : ℕ) (old new : List Insn) 
   pub tail : IsTailOf old new (slice_range insns end to)
   pub demands : (reg : ℕ) → IsAlike old new behind reg ⊎ ((is_settled old new (slice_range insns end to) reg ≡ true) ⊎ (names_in (slice_range insns inside.from first) reg ≡ true))
   pub rows : AreRowsOf (slice_range insns inside.from first ++ new) behind inside.rows
+  pub narrow : AreNarrow inside.rows

@@ -1,4 +1,4 @@
-use Rattle.std.proofs.Common.{◌≡◌, ◌&&◌, ◌++◌, not, List, rules, ap, sym, subst, ◌∙◌, arith}
+use Rattle.std.proofs.Common.{◌&&◌, ◌++◌, not, List, rules, ap, subst, ◌∙◌}
 use Rattle.std.specs.Prelude.{slice_range}
 use Rattle.reg_rows.specs.Row.{has}
 use Rattle.rtx_tree.specs.RegSet.{has_reg}
@@ -7,8 +7,8 @@ use Rattle.live_chain.specs.machine.Window.{is_settled, IsBlockTo, AreRowsOf}
 use Rattle.live_chain.proofs.TailLaws.{found_in}
 use Rattle.live_chain.proofs.kept.rows_from.Goals as goal
 
-pub returns-clause-found : goal.returns-clause-found
-returns-clause-found c =
+pub returns : goal.returns
+returns c =
     let a = c.args in
     let block : IsBlockTo a.insns.now c.in-Some.from a.first c.in_ok-left.left = search rules in
     let front = slice_range a.insns.now c.in-Some.from a.first in
@@ -23,4 +23,5 @@ returns-clause-found c =
       demands = found_in a.old.now a.new.now tail front (has a.behind.now) c.in_ok-differing.differing c.in_ok-left.left c.in_ok-differing.ensures
           (λ reg. c.in_ok-left.ensures reg ∙ ap (λ l. has_reg l reg && not (is_settled a.old.now a.new.now tail reg)) c.as_slice.ensures.value) block.named;
       rows = subst (λ (w : List Insn). AreRowsOf (w ++ a.new.now) (has a.behind.now) c.in_ok-rows.rows) c.in-Some-between.ensures c.in_ok-rows.ensures.rows;
+      narrow = c.in_ok-rows.ensures.narrow;
     }

@@ -1,9 +1,5 @@
-use Rattle.std.proofs.Common.{◌≡◌, ◌&&◌, ◌||◌, not, true, false, ap, sym, ◌∙◌, arith}
-use Rattle.std.specs.Prelude.{slice_range}
-use Rattle.std.proofs.lemmas.Bool.{or_left}
-use Rattle.reg_uses.specs.Uses.{insn_uses, insn_defines}
-use Rattle.live_chain.specs.machine.Window.{asks_for}
-use Rattle.live_chain.proofs.TailLaws.{range_first, asked_here, asked_never, asked_on, none_left}
+use Rattle.std.proofs.Common.{sym, ◌∙◌, arith}
+use Rattle.live_chain.proofs.TailLaws.{asked_here, asked_never, asked_on, none_left}
 use Rattle.live_chain.proofs.settled.is_asked.Goals as goal
 
 pub returns-then-does_use : goal.returns-then-does_use

@@ -1,4 +1,4 @@
-use Rattle.std.proofs.Common.{ap, ◌∙◌, rules, ◌≡◌, true, arith}
+use Rattle.std.proofs.Common.{ap, rules, ◌≡◌, true, arith}
 use Rattle.std.specs.List.{list_all}
 use Rattle.live_chain.specs.machine.Window.{passes}
 use Rattle.live_chain.proofs.TailLaws.{none_ranged, passing_more}

@@ -1,4 +1,4 @@
-use Rattle.std.proofs.Common.{ℕ, ◌||◌, ◌&&◌, Bool, not, take, get_or, sym, ap, ◌∙◌, arith}
+use Rattle.std.proofs.Common.{ℕ, ◌&&◌, Bool, not, take, get_or, sym, ap, ◌∙◌, arith}
 use Rattle.std.proofs.lemmas.Grind.{take_at_read}
 use Rattle.rtx_tree.specs.RegSet.{has_reg}
 use Rattle.std.specs.Prelude.{slice_range}

@@ -5,7 +5,7 @@ use Rattle.rtl_chain.specs.Counts.{greatest_uid, next_pseudo, instruction_count}
 use Rattle.live_chain.specs.Rows.{AreRowsFor}
 use Rattle.live_chain.specs.Stays.{StaysBefore}
 use Rattle.live_chain.specs.machine.Whole.{with_chain}
-use Rattle.live_chain.proofs.KeptLaws.{live_joined, rows_told, rows_shorter, stays_told, narrow_made, narrow_put}
+use Rattle.live_chain.proofs.KeptLaws.{live_joined, rows_told, rows_shorter, stays_told}
 use Rattle.live_chain.proofs.chain.LiveChain.fuse.Goals as goal
 
 pub rows_put-requires-clause-shorter : goal.rows_put-requires-clause-shorter
@@ -25,8 +25,7 @@ invariant_of-self c =
     record {
       live = live_joined f (with_chain was.frame all) a.first a.end a.new a.new was.rows c.take.result c.rows_put.result a.rows
           refl c.take.ensures.value (ap (with_chain was.frame) same)
-          (rows_told f a.first a.end a.new was.rows a.rows c.self.invariant.live made) c.rows_put.ensures.live;
-      narrow = narrow_put was.rows c.take.result c.rows_put.result a.rows c.take.ensures.value (narrow_made f a.first a.end a.new a.rows made) c.self.invariant.narrow c.rows_put.ensures.narrow;
+          (rows_told f a.first a.end a.new was.rows a.rows c.self.invariant.live made) c.rows_put.ensures;
       uid = subst (λ l. IfSome c.uid_put-greatest.result (λ n. n ≡ greatest_uid l)) (sym same)
           (subst (λ new. IfSome c.uid_put-greatest.result (λ n. n ≡ greatest_uid (splice was.insns a.first a.end new))) c.as_slice.ensures.value
           (c.uid_put-greatest.ensures was.insns a.first a.end order c.between-old.ensures c.self.invariant.uid));

@@ -4,7 +4,7 @@ use Rattle.rtl_chain.specs.Counts.{next_pseudo_in, is_instruction}
 use Rattle.live_chain.specs.machine.Whole.{with_chain}
 use Rattle.live_chain.proofs.NumberLaws.{known_after}
 use Rattle.live_chain.proofs.CountLaws.{count_known}
-use Rattle.live_chain.proofs.KeptLaws.{live_joined, rows_told, stays_up_to, up_to_window, narrow_made, narrow_put}
+use Rattle.live_chain.proofs.KeptLaws.{live_joined, rows_told, stays_up_to, up_to_window}
 use Rattle.live_chain.specs.Stays.{StaysBefore}
 use Rattle.live_chain.proofs.chain.LiveChain.replace.Goals as goal
 
@@ -22,9 +22,7 @@ invariant_of-self-2 c =
           c.take.ensures.value (ap (with_chain was.frame) same)
           (rows_told f a.first a.end c.as_slice-4.result.now was.rows c.in_ok-inside.inside c.self.invariant.live
           (c.in_ok-inside.ensures.made f (sym c.move_gap.ensures) c.self.invariant.live))
-          c.rows_joined.ensures.live;
-      narrow = narrow_put was.rows c.take.result c.rows_joined.result c.in_ok-inside.inside c.take.ensures.value
-          (narrow_made f a.first a.end c.as_slice-4.result.now c.in_ok-inside.inside (c.in_ok-inside.ensures.made f (sym c.move_gap.ensures) c.self.invariant.live)) c.self.invariant.narrow c.rows_joined.ensures.narrow;
+          c.rows_joined.ensures;
       uid = known_after (λ i. i.uid) was.insns c.move_gap.new.self c.in-Some.old.now a.new
           c.as_slice.result.now all a.first a.end c.greatest_uid.result c.greatest_uid-2.result was.greatest
           c.uid_after-greatest.result c.requires.order c.move_gap.ensures c.in-Some.ensures

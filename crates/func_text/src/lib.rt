@@ -30,6 +30,6 @@ mod summary;
 pub use assembly::{Assembly, CodeItems, Parts};
 pub use code::{Coded, code_of};
 pub use dump::dump_of;
-pub use input::{assembly_of, compile};
+pub use input::{assembled, assembly_of, compile};
 pub use recog::recog_of;
 pub use summary::Summary;

@@ -8,4 +8,4 @@
 //! the code of a function of an input does what the function does.
 #![tactic(auto)]
 
-pub use func_text::{Summary, assembly_of, code_of, compile, dump_of, recog_of};
+pub use func_text::{Summary, assembled, assembly_of, code_of, compile, dump_of, recog_of};

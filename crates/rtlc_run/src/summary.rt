@@ -55,6 +55,12 @@ pub(crate) fn summary_of(
 {
     let function = made(alloc, u32::from(number))?;
     let mut text = Vec::new(alloc);
-    let summary = compile(alloc, description, Road::Usual, slice::from_ref(&function), &mut text)?;
+    let summary = compile(
+        alloc,
+        description,
+        Road::Usual,
+        slice::from_ref(&function),
+        &mut text,
+    )?;
     Ok(summary_text(alloc, &summary)?)
 }

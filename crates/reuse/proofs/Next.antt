@@ -72,7 +72,7 @@ module _ (forms : List Entry) (f : Function) (span : Span) (are : AreWithin form
       let here = slice_get_within f.insns j r.other r.at_second in
       ⊎_elim
       (λ (before : j < place). none i j n within.0 before r)
-      (λ (upto : place ≤ j). past (omega (arith, upto, here)) (let end = within.1.0 in omega (arith, upto, end)))
+      (λ (upto : place ≤ j). past (omega (arith, upto, here)) (let end = within.1 in omega (arith, upto, end)))
       (cases_lt j place)
 
   pub is_next : (second : ℕ) (p : Repeat) → NoneBetween forms f span.from second → IsLast forms f second p → IsNextRepeat forms f p.first p.second p.new

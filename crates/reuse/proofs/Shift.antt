@@ -86,7 +86,7 @@ within_reuse forms f first second new span end next are is a b n r =
     let upto : b < end = ⊎_elim
     (λ (low : b < second + 65). let upto : b < end = omega (arith, low, is) in upto)
     (λ (high : second + 65 ≤ b).
-    let old = (are a b n (behind_too forms f second (new ∷ []) at a b a b n (omega (arith, near, high)) refl refl r)).1.0 in
+    let old = (are a b n (behind_too forms f second (new ∷ []) at a b a b n (omega (arith, near, high)) refl refl r)).1 in
     let upto : b < end = omega (arith, old, is) in upto)
     (cases_lt b (second + 65)) in
     (from, upto, omega (arith, order, upto)))

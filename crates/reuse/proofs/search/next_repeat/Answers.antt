@@ -14,7 +14,7 @@ last_repeat-requires-clause-within c =
     omega (arith, same, c.len.ensures, c.min-end.ensures, c.loop-second-test.true)
 
 pub last_repeat-requires-clause-ahead : goal.last_repeat-requires-clause-ahead
-last_repeat-requires-clause-ahead c first new r = (subst (λ f. AreWithin c.args.desc.now f c.args.span) (sym c.loop-second.invariant.same) c.requires first c.loop-second.second new r).1.1
+last_repeat-requires-clause-ahead c first new r = (subst (λ f. AreWithin c.args.desc.now f c.args.span) (sym c.loop-second.invariant.same) c.requires first c.loop-second.second new r).2
 
 pub returns-in-Some-clause-next : goal.returns-in-Some-clause-next
 returns-in-Some-clause-next c =

@@ -8,9 +8,9 @@ pub returns-then-not-sets_computed-clause-last : goal.returns-then-not-sets_comp
 returns-then-not-sets_computed-clause-last c =
     none_computed c.args.desc.now c.args.chain.now c.args.second c.insn.result.now c.insn.ensures (c.sets_computed.ensures c.if-not-sets_computed.true)
 
-pub returns-then-firsts-le-least-clause-last : goal.returns-then-firsts-le-least-clause-last
-returns-then-firsts-le-least-clause-last c =
-    none_ahead c.args.desc.now c.args.chain.now c.args.second c.args.firsts c.requires.ahead (omega (arith, c.saturating_sub-least.ensures, c.if-firsts-le-least.true))
+pub returns-then-firsts-least-clause-last : goal.returns-then-firsts-least-clause-last
+returns-then-firsts-least-clause-last c =
+    none_ahead c.args.desc.now c.args.chain.now c.args.second c.args.firsts c.requires.ahead (omega (arith, c.saturating_sub-least.ensures, c.if-firsts-least.true))
 
 pub tried_ahead-requires-clause-ahead : goal.tried_ahead-requires-clause-ahead
 tried_ahead-requires-clause-ahead c = subst (λ f. AreAhead c.args.desc.now f c.args.second c.args.firsts) (sym c.loop-first.invariant.same) c.requires.ahead

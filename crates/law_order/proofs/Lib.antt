@@ -1,0 +1,5 @@
+pub mod Ready
+pub mod AllLate
+pub mod AllApart
+pub mod Behind
+pub mod Same

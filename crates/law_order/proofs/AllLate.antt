@@ -28,7 +28,7 @@ pub record AreKept (jobs : List Job) (s : Placed) : Type 0 where
 
 -- ---- none
 
-none_kept : (jobs : List Job) → AreKept jobs (none_placed (length jobs))
+pub none_kept : (jobs : List Job) → AreKept jobs (none_placed (length jobs))
 none_kept jobs = record {
   cycles = length-replicate (length jobs) 0;
   marks = length-replicate (length jobs) false;

@@ -3,3 +3,4 @@ pub mod AllLate
 pub mod AllApart
 pub mod Behind
 pub mod Same
+pub mod Items

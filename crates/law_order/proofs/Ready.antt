@@ -10,13 +10,13 @@ use Rattle.job_order.specs.declared.placed.Placed.{Placed}
 use Rattle.job_order.specs.Jobs.{IsAsk, IsJob, AreJobs, heights}
 use Rattle.job_order.specs.Order.{is_placed, is_ready, higher, next_from, next}
 
-none_some : {A : Type 0} (x : A) → None ≡ Some x → ⊥
+pub none_some : {A : Type 0} (x : A) → None ≡ Some x → ⊥
 none_some x e = cc
 
-some_is : {A : Type 0} (x y : A) → Some x ≡ Some y → x ≡ y
+pub some_is : {A : Type 0} (x y : A) → Some x ≡ Some y → x ≡ y
 some_is x y e = cc
 
-true_false : true ≡ false → ⊥
+pub true_false : true ≡ false → ⊥
 true_false e = cc
 
 -- a job of some, of which the first stands at a place, that is ready
@@ -30,13 +30,16 @@ pub record HasReady (s : Placed) (k : ℕ) (js : List Job) (place : ℕ) : Type 
 later : (s : Placed) (k : ℕ) (j : Job) (js : List Job) (place : ℕ) → HasReady s (k + 1) js place → HasReady s k (j ∷ js) place
 later s k j js place h = record { at = suc h.at; job = h.job; is = let e : place ≡ k + 1 + h.at = h.is in omega arith; there = h.there; ready = h.ready }
 
+first : (s : Placed) (k place : ℕ) (j : Job) (js : List Job) → is_ready s k j ≡ true → k ≡ place → HasReady s k (j ∷ js) place
+first s k place j js here e = record { at = 0; job = j; is = omega arith; there = refl; ready = subst (λ (p : ℕ). is_ready s p j ≡ true) e here }
+
 of_higher : (s : Placed) (hs : List ℕ) (k place : ℕ) (j : Job) (js : List Job) (o : Option ℕ) → is_ready s k j ≡ true → ((p : ℕ) → o ≡ Some p → HasReady s (k + 1) js p) → higher hs k o ≡ place → HasReady s k (j ∷ js) place
-of_higher s hs k place j js None here rest e = record { at = 0; job = j; is = omega arith; there = refl; ready = subst (λ (p : ℕ). is_ready s p j ≡ true) e here }
+of_higher s hs k place j js None here rest e = first s k place j js here e
 of_higher s hs k place j js (Some other) here rest e =
     let go : (b : Bool) → cond b other k ≡ place → HasReady s k (j ∷ js) place =
     λ b. elim b as (λ b. cond b other k ≡ place → HasReady s k (j ∷ js) place) [
       | true ↦ λ h. later s k j js place (rest place (ap (λ (p : ℕ). Some p) h))
-      | false ↦ λ h. of_higher s hs k place j js None here (λ p n. absurd (none_some p n)) h
+      | false ↦ λ h. first s k place j js here h
     ] in
     go (nat_lt (get_or hs k 0) (get_or hs other 0)) e
 

@@ -70,7 +70,7 @@ range_more n = sym (same (n + 1) 0) ∙ map-range_with_len_more (λ (k : ℕ). k
 places_same : (n : ℕ) (cycles order : List ℕ) → AreInOrder cycles n order → IsPermutation (range_with_len 0 n) order
 places_same zero cycles order old = subst (IsPermutation (range_with_len 0 0)) (sym (no_places cycles order old)) (IsPermutation-refl [])
 places_same (suc n) cycles order old =
-    let more : AreInOrder cycles (n + 1) order = old in
+    let more : AreInOrder cycles (n + 1) order = subst (λ (m : ℕ). AreInOrder cycles m order) (let e : suc n ≡ n + 1 = omega arith in e) old in
     let spot : Contains order n = old.all n (omega arith) in
     let at : (d : ℕ) → get_or order spot.0 d ≡ n = λ d. get_or_default order spot.0 d n spot.1 ∙ spot.2 in
     let rest : IsPermutation (range_with_len 0 n) (remove order spot.0) = places_same n cycles (remove order spot.0) (less_one cycles order n spot.0 more spot.1 at) in
@@ -78,7 +78,7 @@ places_same (suc n) cycles order old =
     let put : IsPermutation (n ∷ range_with_len 0 n) (n ∷ remove order spot.0) = IsPermutation-cons n (range_with_len 0 n) (remove order spot.0) rest in
     let back : IsPermutation (n ∷ remove order spot.0) order = IsPermutation-sym order (n ∷ remove order spot.0) (IsPermutation-remove order spot.0 n spot.1 (sym (at n))) in
     let all : IsPermutation (range_with_len 0 n ++ n ∷ []) order = IsPermutation-trans (range_with_len 0 n ++ n ∷ []) (n ∷ range_with_len 0 n) order front (IsPermutation-trans (n ∷ range_with_len 0 n) (n ∷ remove order spot.0) order put back) in
-    subst (λ (xs : List ℕ). IsPermutation xs order) (sym (range_more n)) all
+    subst (λ (m : ℕ). IsPermutation (range_with_len 0 m) order) (let e : n + 1 ≡ suc n = omega arith in e) (subst (λ (xs : List ℕ). IsPermutation xs order) (sym (range_more n)) all)
 
 -- ---- items
 

@@ -1,10 +1,10 @@
 -- No unit is taken twice: of the jobs that are placed, at each step.
-use Rattle.std.proofs.Common.{◌≡◌, ℕ, zero, suc, ◌+◌, ◌<◌, ◌≤◌, ◌==◌, min, max, Bool, true, false, inl, inr, List, [], ◌∷◌, Some, None, cond, find, drop, length, get_or, set, replicate, refl, sym, ap, subst, ◌∙◌, arith}
+use Rattle.std.proofs.Common.{◌≡◌, ℕ, zero, suc, ◌==◌, Bool, true, false, inl, inr, List, [], ◌∷◌, Some, cond, find, length, get_or, set, replicate, refl, sym, ap, subst, ◌∙◌, arith}
 use Rattle.std.specs.Prelude.{bit_and, bit_or, slice_get}
 use Rattle.std.specs.List.{Contains}
 use Rattle.std.specs.Int.{bit_at}
 use Rattle.std.proofs.lemmas.Bool.{cases_eq, and_parts, eqb-true, ne_eqb, eq-eqb}
-use Rattle.std.proofs.lemmas.List.{get_or-set_same, get_or-set_other, get_or-replicate, get_or-drop}
+use Rattle.std.proofs.lemmas.List.{get_or-set_same, get_or-set_other}
 use Rattle.std.proofs.lemmas.Nat.Bits.{bit_at_and, bit_at_or, bit_at-zero, same_from_bits}
 use Rattle.std.proofs.lemmas.Option.{slice_get_within}
 use Rattle.dfa_ways.specs.Ways.{Way, Ways}
@@ -14,7 +14,7 @@ use Rattle.job_order.specs.Jobs.{AreJobs}
 use Rattle.job_order.specs.Slots.{are_apart, is_free, taken_now, taken_from, IsSlot}
 use Rattle.job_order.specs.Order.{is_placed, is_ready, none_placed, placed_at, Places, done, one}
 use Rattle.law_order.specs.Apart.{units_in, AreApart, HaveUnits, TakeUnits}
-use Rattle.law_order.proofs.Ready.{next_ready, ready_new, all_placed, none_some, some_is, true_false}
+use Rattle.law_order.proofs.Ready.{next_ready, all_placed, none_some, some_is, true_false}
 use Rattle.law_order.proofs.AllLate.{AreKept, none_kept, kept_more}
 
 -- ---- units as sets
@@ -172,20 +172,20 @@ module _ (jobs : List Job) (s : Placed) (k : ℕ) (j : Job) (cycle : ℕ) (way :
       | inr e ↦ subst (λ (w : Way). Contains job.ways w) (sym (is_old place e)) (old.own place job there (was place e placed))
     ];
     inside = λ place placed c.
-      let all = taken_in s.taken cycle way c in
-      elim (cases_eq place k) as (λ x. bit_and (units_in (get_or (set s.cycles k cycle) place 0) (cond (place == k) way (old.ways place)) c) (get_or (taken_from s.taken cycle way) c 0) ≡ units_in (get_or (set s.cycles k cycle) place 0) (cond (place == k) way (old.ways place)) c) [
-        | inl e ↦ rw (new_units place e c, all) (inside_new (get_or s.taken c 0) (units_in cycle way c))
-        | inr e ↦ rw (old_units place e c, all) (inside_more (units_in (get_or s.cycles place 0) (old.ways place) c) (get_or s.taken c 0) (units_in cycle way c) (old.inside place (was place e placed) c))
-      ];
+        let all = taken_in s.taken cycle way c in
+        elim (cases_eq place k) as (λ x. bit_and (units_in (get_or (set s.cycles k cycle) place 0) (cond (place == k) way (old.ways place)) c) (get_or (taken_from s.taken cycle way) c 0) ≡ units_in (get_or (set s.cycles k cycle) place 0) (cond (place == k) way (old.ways place)) c) [
+          | inl e ↦ rw (new_units place e c, all) (inside_new (get_or s.taken c 0) (units_in cycle way c))
+          | inr e ↦ rw (old_units place e c, all) (inside_more (units_in (get_or s.cycles place 0) (old.ways place) c) (get_or s.taken c 0) (units_in cycle way c) (old.inside place (was place e placed) c))
+        ];
     apart = λ p q differ one_placed other_placed c.
-      elim (cases_eq p k) as (λ x. bit_and (units_in (get_or (set s.cycles k cycle) p 0) (cond (p == k) way (old.ways p)) c) (units_in (get_or (set s.cycles k cycle) q 0) (cond (q == k) way (old.ways q)) c) ≡ 0) [
-        | inl e ↦ let other : q ≡ k → ⊥ = λ h. differ (e ∙ sym h) in
-            rw (new_units p e c, old_units q other c) (comes_apart (units_in (get_or s.cycles q 0) (old.ways q) c) (units_in cycle way c) (old_new q c (was q other other_placed)))
-        | inr e ↦ elim (cases_eq q k) as (λ x. bit_and (units_in (get_or (set s.cycles k cycle) p 0) (cond (p == k) way (old.ways p)) c) (units_in (get_or (set s.cycles k cycle) q 0) (cond (q == k) way (old.ways q)) c) ≡ 0) [
-          | inl f ↦ rw (old_units p e c, new_units q f c) (old_new p c (was p e one_placed))
-          | inr f ↦ rw (old_units p e c, old_units q f c) (old.apart p q differ (was p e one_placed) (was q f other_placed) c)
-        ]
-      ];
+        elim (cases_eq p k) as (λ x. bit_and (units_in (get_or (set s.cycles k cycle) p 0) (cond (p == k) way (old.ways p)) c) (units_in (get_or (set s.cycles k cycle) q 0) (cond (q == k) way (old.ways q)) c) ≡ 0) [
+          | inl e ↦ let other : q ≡ k → ⊥ = λ h. differ (e ∙ sym h) in
+              rw (new_units p e c, old_units q other c) (comes_apart (units_in (get_or s.cycles q 0) (old.ways q) c) (units_in cycle way c) (old_new q c (was q other other_placed)))
+          | inr e ↦ elim (cases_eq q k) as (λ x. bit_and (units_in (get_or (set s.cycles k cycle) p 0) (cond (p == k) way (old.ways p)) c) (units_in (get_or (set s.cycles k cycle) q 0) (cond (q == k) way (old.ways q)) c) ≡ 0) [
+            | inl f ↦ rw (old_units p e c, new_units q f c) (old_new p c (was p e one_placed))
+            | inr f ↦ rw (old_units p e c, old_units q f c) (old.apart p q differ (was p e one_placed) (was q f other_placed) c)
+          ]
+        ];
   }
 
 -- ---- all

@@ -1,5 +1,5 @@
 -- Jobs come late enough: each that is placed, at each step.
-use Rattle.std.proofs.Common.{◌≡◌, ℕ, zero, suc, ◌+◌, ◌<◌, ◌≤◌, max, Bool, true, false, inl, inr, List, [], ◌∷◌, Some, None, length, get_or, set, replicate, refl, sym, ap, subst, ◌∙◌, arith}
+use Rattle.std.proofs.Common.{◌≡◌, ℕ, ◌+◌, ◌<◌, ◌≤◌, true, false, inl, inr, List, [], ◌∷◌, Some, length, get_or, set, sym, ap, subst, ◌∙◌, arith}
 use Rattle.std.specs.Prelude.{slice_get}
 use Rattle.std.specs.List.{list_all, AllByRecursion}
 use Rattle.std.proofs.lemmas.Bool.{cases_eq, and_parts}
@@ -11,8 +11,8 @@ use Rattle.job_order.specs.declared.job.Job.{Job}
 use Rattle.job_order.specs.declared.placed.Placed.{Placed}
 use Rattle.job_order.specs.Jobs.{AreJobs}
 use Rattle.job_order.specs.Slots.{late_for, IsSlot}
-use Rattle.job_order.specs.Order.{is_placed, is_ready, none_placed, placed_at, next, Places, done, one}
-use Rattle.law_order.specs.Late.{IsLate, AreLate, HaveCycles, ComeLate}
+use Rattle.job_order.specs.Order.{is_placed, is_ready, none_placed, placed_at, Places, done, one}
+use Rattle.law_order.specs.Late.{IsLate, HaveCycles, ComeLate}
 use Rattle.law_order.proofs.Ready.{next_ready, ready_new, ready_asks, all_placed, some_is, true_false}
 
 -- a job is asked of that is placed, and early enough

@@ -1,13 +1,11 @@
 -- Jobs come behind those that they depend on.
-use Rattle.std.proofs.Common.{◌≡◌, ℕ, ◌+◌, ◌<◌, ◌≤◌, inl, inr, List, [], ◌∷◌, Some, length, get_or, sym, ap, ◌∙◌, arith}
-use Rattle.std.specs.Prelude.{slice_get}
+use Rattle.std.proofs.Common.{◌≡◌, ℕ, ◌+◌, ◌<◌, ◌≤◌, inl, inr, List, [], ◌∷◌, get_or, sym, ap, ◌∙◌, arith}
 use Rattle.std.specs.List.{AllByRecursion}
 use Rattle.std.proofs.lemmas.Bool.{cases_lt, cases_eq}
 use Rattle.job_order.specs.declared.job.Ask.{Ask}
-use Rattle.job_order.specs.declared.job.Job.{Job}
-use Rattle.job_order.specs.Jobs.{IsAsk, IsJob, AreJobs}
-use Rattle.job_order.specs.Order.{AreCycles, ComesBefore, IsOrder}
-use Rattle.law_order.specs.Late.{IsLate, AreLate, HaveCycles, IsAhead, AreBehind, ComeBehind}
+use Rattle.job_order.specs.Jobs.{IsAsk}
+use Rattle.job_order.specs.Order.{ComesBefore, IsOrder}
+use Rattle.law_order.specs.Late.{IsLate, IsAhead, ComeBehind}
 use Rattle.law_order.proofs.Ready.{job_there}
 use Rattle.law_order.proofs.AllLate.{come_late}
 

@@ -1,6 +1,6 @@
 -- What an instruction takes is one thing, and there is a way in it.
 use Rattle.std.proofs.Common.{◌≡◌, ℕ, zero, suc, ◌+◌, ◌<◌, ◌≤◌, Bool, true, false, List, [], ◌∷◌, Option, Some, None, cond, length, refl, sym, ap, subst, ◌∙◌, arith}
-use Rattle.std.specs.Prelude.{slice_get}
+use Rattle.std.specs.Prelude.{slice_get, option_map, IfSome}
 use Rattle.std.specs.List.{AllByRecursion, position_from}
 use Rattle.std.specs.Option.{option_map_or}
 use Rattle.dfa_ways.specs.Ways.{Way, Ways, no_cycle}
@@ -82,3 +82,18 @@ module _ (forms : List Entry) (p : Pipeline) (i : Insn) where
   takes_one _ _ (Takes.chosen c e is) (Takes.note f) = absurd (both (needs_form i) e f)
   takes_one _ _ (Takes.chosen c e is) (Takes.unmatched f none) = absurd (chosen_not forms output_facts i.pattern c is none)
   takes_one _ _ (Takes.chosen c e is) (Takes.chosen d f other) = same_taken c d (chosen_one forms output_facts i.pattern c d is other)
+
+-- ---- what the code puts together
+
+pub within_if : (p : Pipeline) (forms : List Entry) (form alternative : ℕ) (o : Option ℕ) → o ≡ reservation_of p forms form alternative → IfSome o (λ at. at < length p.reservations)
+within_if p forms form alternative None e = tt
+within_if p forms form alternative (Some k) e = reserved_within p forms form alternative k (sym e)
+
+pub by_parts : (p : Pipeline) (k latency : ℕ) (ways : Ways) → option_map (λ (r : Reservation). r.latency) (slice_get p.reservations k) ≡ Some latency → option_map (λ (r : Reservation). r.ways) (slice_get p.reservations k) ≡ Some ways → record { latency = latency; ways = ways } ≡ taken_by p (Some k)
+by_parts p k latency ways e f =
+    let go : (o : Option Reservation) → option_map (λ (r : Reservation). r.latency) o ≡ Some latency → option_map (λ (r : Reservation). r.ways) o ≡ Some ways → record { latency = latency; ways = ways } ≡ option_map_or taken_as o nothing =
+    λ o. elim o as (λ o. option_map (λ (r : Reservation). r.latency) o ≡ Some latency → option_map (λ (r : Reservation). r.ways) o ≡ Some ways → record { latency = latency; ways = ways } ≡ option_map_or taken_as o nothing) [
+      | None ↦ λ a b. absurd (none_some latency a)
+      | Some r ↦ λ a b. ap (λ (n : ℕ). record { latency = n; ways = ways }) (sym (some_is r.latency latency a)) ∙ ap (λ (w : Ways). record { latency = r.latency; ways = w }) (sym (some_is r.ways ways b))
+    ] in
+    go (slice_get p.reservations k) e f

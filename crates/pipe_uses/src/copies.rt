@@ -18,7 +18,7 @@ pub fn copied(alloc: Global, ways: &[Way]) -> Result<Ways, Memory>
 }
 
 /// The one way that takes no cycle.
-pub fn no_cycle(alloc: Global) -> Result<Ways, Memory>
+pub fn no_units(alloc: Global) -> Result<Ways, Memory>
     ensures { IfOk result (λ ways. ways ≡ no_cycle) }
 {
     let mut ways = Items::new(alloc);

@@ -9,7 +9,7 @@ ghost use Rattle.region_jobs.specs.Kept.{IsTaken};
 ghost use Rattle.region_jobs.specs.declared.taken.Taken.{Taken};
 ghost use Rattle.pipe_uses.specs.Takes as spec;
 
-use crate::copies::{copied, no_cycle};
+use crate::copies::{copied, no_units};
 use form_needs::{needs_form, output_facts};
 use md_desc::{Chosen, Description};
 use md_dfa::Pipeline;
@@ -24,11 +24,12 @@ fn nothing(alloc: Global) -> Result<Taken, Memory>
 {
     Ok(Taken {
         latency: 1,
-        ways: no_cycle(alloc)?,
+        ways: no_units(alloc)?,
     })
 }
 
 /// What an instruction of a reservation takes, or of none.
+#[tactic(auto, using(crate::proofs::TakesLaws::by_parts))]
 fn taken_by(alloc: Global, pipe: &Pipeline, reservation: Option<usize>) -> Result<Taken, Memory>
     requires { IfSome reservation (λ at. at < length pipe.now.reservations) }
     ensures { IfOk result (λ taken. taken ≡ spec.taken_by pipe.now reservation) }
@@ -43,6 +44,7 @@ fn taken_by(alloc: Global, pipe: &Pipeline, reservation: Option<usize>) -> Resul
 }
 
 /// What an instruction for which a form was chosen takes.
+#[tactic(auto, using(crate::proofs::TakesLaws::within_if))]
 fn taken_for(
     alloc: Global,
     desc: &Description,
@@ -57,6 +59,7 @@ fn taken_for(
 }
 
 /// What an instruction takes of a pipeline.
+#[tactic(auto, using(crate::proofs::TakesLaws::takes_lawful, crate::proofs::TakesLaws::takes_one))]
 pub fn takes(
     alloc: Global,
     desc: &Description,

@@ -87,5 +87,5 @@ module _ (P : ℕ → Ask → Type 0) (insns : List Insn) (taken : List Taken) (
 pub keep_dependences : KeepDependences
 keep_dependences insns taken cycles order are places is = (
   of_waits (IsLate cycles) insns taken (come_late (jobs_of insns taken) cycles are places).late,
-  of_waits (λ (place : ℕ) (ask : Ask). IsAhead order ask.job place) insns taken (come_behind (jobs_of insns taken) cycles order are places is)
+  of_waits (λ (place : ℕ) (ask : Ask). IsAhead order ask.job place) insns taken (come_behind (jobs_of insns taken) cycles order are places is),
 )

@@ -2,7 +2,7 @@
 use Rattle.std.proofs.Common.{◌≡◌, ℕ, ◌+◌, ◌<◌, ◌≤◌, min, Bool, true, false, List, [], ◌∷◌, take, length, get_or, sym, ap, ◌∙◌, arith}
 use Rattle.std.specs.List.{AllWithin, prefix_len}
 use Rattle.std.proofs.lemmas.List.{get_or-take, length-take}
-use Rattle.std.proofs.lemmas.List.Elements.{at_read, AllWithin-more}
+use Rattle.std.proofs.lemmas.List.Elements.{at_read, AllWithin-more, AllWithin-upto}
 use Rattle.std.proofs.lemmas.List.Sums.{prefix_len_is}
 use Rattle.rtx_tree.specs.Limit.{most_scheduled}
 use Rattle.rtx_tree.specs.declared.function.Insn.{Insn}
@@ -30,7 +30,10 @@ ends_at insns at i before few within is other =
     ends_by insns at i before (omega arith) (omega arith) (λ h. ap is_plain (get_or-take most_scheduled insns at i few ∙ sym is) ∙ other)
 
 -- behind the last
-pub ends : (insns : List Insn) (at : ℕ) → ArePlain insns at → at ≡ min most_scheduled (length insns) → at ≡ region_length insns
-ends [] at before is = omega arith
-ends (i ∷ insns) at before is =
+last : (insns : List Insn) (at : ℕ) → ArePlain insns at → at ≡ min most_scheduled (length insns) → at ≡ region_length insns
+last [] at before is = omega arith
+last (i ∷ insns) at before is =
     ends_by (i ∷ insns) at i before (omega arith) (omega arith) (λ h. absurd (let l = length-take most_scheduled (i ∷ insns) in omega (arith, l)))
+
+pub ends : (insns : List Insn) (at most : ℕ) → ArePlain insns at → most ≤ at → most ≡ min most_scheduled (length insns) → most ≡ region_length insns
+ends insns at most before past is = last insns most (AllWithin-upto (λ (i : Insn). is_plain i ≡ true) insns 0 at most past before) is

@@ -1,6 +1,7 @@
 //! What the job of an instruction asks of those in front of it.
 ghost use Rattle.std.specs.Prelude.{◌≡◌, ◌≤◌, ◌++◌, length, IfOk, OnOk};
 ghost use Rattle.region_jobs.specs.Jobs as spec;
+ghost use Rattle.region_jobs.specs.Kept.{MakeJobs, KeepDependences};
 
 use insn_depends::dependence;
 use job_order::Ask;
@@ -21,12 +22,13 @@ fn add_ask(place: usize, weight: Option<u32>, asks: &mut Items<Ask>) -> Result<(
     }
 }
 
-/// What the job of an instruction asks of those in front of it, which have latencies.
+/// What the job of an instruction asks of those in front of it, which have latencies. The jobs of a
+/// region can be placed, and in whatever order they come, dependences are kept.
 ///
 /// # Errors
 ///
 /// `Memory` where memory ran out, or the number of a register is past 32 bits.
-#[tactic(auto, using(crate::proofs::AskLaws::asks_more, crate::proofs::AskLaws::asks_all))]
+#[tactic(auto, using(crate::proofs::AskLaws::asks_more, crate::proofs::AskLaws::asks_all, crate::proofs::JobLaws::make_jobs))]
 pub fn asks_of(
     alloc: Global,
     before: &[Insn],
@@ -34,7 +36,10 @@ pub fn asks_of(
     later: &Insn,
 ) -> Result<Items<Ask>, Memory>
     requires { length before.now ≤ length latencies.now }
-    ensures { IfOk result (λ asks. asks ≡ spec.asks_from 0 before.now latencies.now later.now) }
+    ensures asks { IfOk result (λ asks.
+        asks ≡ spec.asks_from 0 before.now latencies.now later.now) }
+    ensures placeable { MakeJobs }
+    ensures kept { KeepDependences }
 {
     let mut asks = Items::new(alloc);
     for (place, earlier) in before.iter().enumerate() {

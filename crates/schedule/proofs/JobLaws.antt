@@ -1,0 +1,59 @@
+-- The jobs of instructions: one more.
+use Rattle.std.proofs.Common.{◌≡◌, ℕ, ◌+◌, ◌<◌, ◌≤◌, List, [], ◌∷◌, ◌++◌, map, take, length, get_or, append_assoc, refl, sym, ap, ◌∙◌, arith}
+use Rattle.std.specs.List.{AllZip}
+use Rattle.std.proofs.lemmas.List.{append-nil, take_more}
+use Rattle.std.proofs.lemmas.List.Elements.{all_zip_more, length_all_zip}
+use Rattle.rtx_tree.specs.declared.function.Insn.{Insn}
+use Rattle.job_order.specs.declared.job.Job.{Job}
+use Rattle.region_jobs.specs.declared.taken.Taken.{Taken}
+use Rattle.region_jobs.specs.Jobs.{job_of, jobs_behind, jobs_of}
+use Rattle.md_forms.specs.declared.form.Entry.{Entry}
+use Rattle.md_dfa.specs.declared.pipeline.Pipeline.{Pipeline}
+use Rattle.pipe_uses.specs.Takes.{Takes}
+use Rattle.schedule.specs.machine.Made.{AreJobsOf}
+
+abbrev pub latencies_of : List Taken → List ℕ
+latencies_of taken = map (λ (t : Taken). t.latency) taken
+
+-- the jobs of instructions with one behind them
+jobs_push : (before : List Insn) (latencies : List ℕ) (insns : List Insn) (taken : List Taken) (i : Insn) (t : Taken) → length insns ≡ length taken
+    → jobs_behind before latencies (insns ++ i ∷ []) (taken ++ t ∷ []) ≡ jobs_behind before latencies insns taken ++ job_of (before ++ insns) (latencies ++ latencies_of taken) i t.ways ∷ []
+jobs_push before latencies [] [] i t same = ap (λ (b : List Insn). job_of b latencies i t.ways ∷ []) (sym (append-nil before)) ∙ ap (λ (l : List ℕ). job_of (before ++ []) l i t.ways ∷ []) (sym (append-nil latencies))
+jobs_push before latencies [] (u ∷ taken) i t same = absurd (omega arith)
+jobs_push before latencies (x ∷ insns) [] i t same = absurd (omega arith)
+jobs_push before latencies (x ∷ insns) (u ∷ taken) i t same =
+    let rest = jobs_push (before ++ x ∷ []) (latencies ++ u.latency ∷ []) insns taken i t (omega arith) in
+    let fronts : (before ++ x ∷ []) ++ insns ≡ before ++ (x ∷ insns) = append_assoc before (x ∷ []) insns in
+    let lats : (latencies ++ u.latency ∷ []) ++ latencies_of taken ≡ latencies ++ (u.latency ∷ latencies_of taken) = append_assoc latencies (u.latency ∷ []) (latencies_of taken) in
+    let here : job_of ((before ++ x ∷ []) ++ insns) ((latencies ++ u.latency ∷ []) ++ latencies_of taken) i t.ways ≡ job_of (before ++ (x ∷ insns)) (latencies ++ (u.latency ∷ latencies_of taken)) i t.ways =
+        ap (λ (b : List Insn). job_of b ((latencies ++ u.latency ∷ []) ++ latencies_of taken) i t.ways) fronts ∙ ap (λ (l : List ℕ). job_of (before ++ (x ∷ insns)) l i t.ways) lats in
+    ap (λ (js : List Job). job_of before latencies x u.ways ∷ js) (rest ∙ ap (λ (j : Job). jobs_behind (before ++ x ∷ []) (latencies ++ u.latency ∷ []) insns taken ++ j ∷ []) here)
+
+-- what a loop over instructions knows
+pub record AreJobsUpto (forms : List Entry) (p : Pipeline) (insns : List Insn) (jobs : List Job) (latencies : List ℕ) : Type 0 where
+  pub taken : List Taken
+  pub takes : AllZip (Takes forms p) insns taken
+  pub jobs : jobs ≡ jobs_of insns taken
+  pub latencies : latencies ≡ latencies_of taken
+
+pub upto_none : (forms : List Entry) (p : Pipeline) → AreJobsUpto forms p [] [] []
+upto_none forms p = record { taken = []; takes = tt; jobs = refl; latencies = refl }
+
+mapped_push : {A B : Type 0} (f : A → B) (xs : List A) (x : A) → map f (xs ++ x ∷ []) ≡ map f xs ++ f x ∷ []
+mapped_push f [] x = refl
+mapped_push f (y ∷ xs) x = ap (λ ys. f y ∷ ys) (mapped_push f xs x)
+
+module _ (forms : List Entry) (p : Pipeline) (insns : List Insn) (place : ℕ) (i : Insn) (within : place < length insns) (is : i ≡ get_or insns place i) where
+  pub upto_more : (jobs : List Job) (latencies : List ℕ) (t : Taken) → AreJobsUpto forms p (take place insns) jobs latencies → Takes forms p i t
+      → AreJobsUpto forms p (take (place + 1) insns) (jobs ++ job_of (take place insns) latencies i t.ways ∷ []) (latencies ++ t.latency ∷ [])
+  upto_more jobs latencies t old takes =
+      let long : length (take place insns) ≡ length old.taken = length_all_zip (Takes forms p) (take place insns) old.taken old.takes in
+      let front : take (place + 1) insns ≡ take place insns ++ i ∷ [] = take_more insns place i within ∙ ap (λ (j : Insn). take place insns ++ j ∷ []) (sym is) in
+      record {
+        taken = old.taken ++ t ∷ [];
+        takes = all_zip_more (Takes forms p) insns old.taken place i t within is old.takes takes;
+        jobs = ap (λ (js : List Job). js ++ job_of (take place insns) latencies i t.ways ∷ []) old.jobs
+            ∙ (ap (λ (l : List ℕ). jobs_of (take place insns) old.taken ++ job_of (take place insns) l i t.ways ∷ []) old.latencies
+            ∙ (sym (jobs_push [] [] (take place insns) old.taken i t long) ∙ ap (λ (b : List Insn). jobs_of b (old.taken ++ t ∷ [])) (sym front)));
+        latencies = ap (λ (l : List ℕ). l ++ t.latency ∷ []) old.latencies ∙ sym (mapped_push (λ (u : Taken). u.latency) old.taken t);
+      }

@@ -1,15 +1,14 @@
 -- The jobs of instructions can be placed.
-use Rattle.std.proofs.Common.{◌≡◌, ℕ, zero, suc, ◌+◌, ◌<◌, ◌≤◌, Bool, true, false, List, [], ◌∷◌, ◌++◌, Option, Some, None, cond, length, get_or, refl, sym, ap, subst, ◌∙◌, arith}
+use Rattle.std.proofs.Common.{◌≡◌, ℕ, zero, suc, ◌+◌, ◌<◌, ◌≤◌, Bool, true, false, List, [], ◌∷◌, ◌++◌, Option, Some, None, cond, length, get_or, refl, subst, arith}
 use Rattle.std.specs.List.{AllByRecursion}
 use Rattle.std.proofs.lemmas.List.{length-append}
-use Rattle.rtx_tree.specs.Limit.{most_latency, most_scheduled}
+use Rattle.rtx_tree.specs.Limit.{most_latency}
 use Rattle.rtx_tree.specs.declared.function.Insn.{Insn}
-use Rattle.job_order.specs.declared.job.Ask.{Ask}
 use Rattle.job_order.specs.declared.job.Job.{Job}
-use Rattle.job_order.specs.Jobs.{IsAsk, IsShort, IsJob, AreJobs}
+use Rattle.job_order.specs.Jobs.{IsAsk, IsJob}
 use Rattle.insn_depends.specs.Depends.{awaits, depends, weight, dependence}
 use Rattle.region_jobs.specs.declared.taken.Taken.{Taken}
-use Rattle.region_jobs.specs.Jobs.{ask_for, asks_from, job_of, jobs_behind, jobs_of}
+use Rattle.region_jobs.specs.Jobs.{ask_for, asks_from, jobs_behind, jobs_of}
 use Rattle.region_jobs.specs.Kept.{IsTaken, MakeJobs}
 
 some_is : {A : Type 0} (x y : A) → Some x ≡ Some y → x ≡ y

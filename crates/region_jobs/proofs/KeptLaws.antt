@@ -1,20 +1,18 @@
 -- Instructions keep their dependences.
-use Rattle.std.proofs.Common.{◌≡◌, ℕ, zero, suc, ◌+◌, ◌<◌, ◌≤◌, List, [], ◌∷◌, ◌++◌, Option, Some, None, map, take, length, append_assoc, refl, sym, ap, subst, ◌∙◌, arith}
-use Rattle.std.specs.Prelude.{slice_get, slice_index}
+use Rattle.std.proofs.Common.{◌≡◌, ℕ, zero, suc, ◌+◌, ◌<◌, List, [], ◌∷◌, ◌++◌, Option, Some, None, map, take, append_assoc, sym, ap, subst, ◌∙◌, arith}
+use Rattle.std.specs.Prelude.{slice_get}
 use Rattle.std.specs.List.{AllByRecursion}
 use Rattle.std.proofs.lemmas.List.{append-nil}
 use Rattle.rtx_tree.specs.declared.function.Insn.{Insn}
 use Rattle.job_order.specs.declared.job.Ask.{Ask}
 use Rattle.job_order.specs.declared.job.Job.{Job}
-use Rattle.job_order.specs.Jobs.{AreJobs}
-use Rattle.job_order.specs.Order.{AreCycles, IsOrder}
-use Rattle.law_order.specs.Late.{IsLate, IsAhead, HaveCycles, AreBehind}
+use Rattle.law_order.specs.Late.{IsLate, IsAhead}
 use Rattle.law_order.proofs.AllLate.{come_late}
 use Rattle.law_order.proofs.Behind.{come_behind}
 use Rattle.insn_depends.specs.Depends.{dependence}
 use Rattle.region_jobs.specs.declared.taken.Taken.{Taken}
 use Rattle.region_jobs.specs.Jobs.{ask_for, asks_from, job_of, jobs_behind, jobs_of}
-use Rattle.region_jobs.specs.Kept.{Waits, AreSpaced, AreAhead, KeepDependences}
+use Rattle.region_jobs.specs.Kept.{Waits, KeepDependences}
 
 none_some : {A : Type 0} (x : A) → None ≡ Some x → ⊥
 none_some x e = cc

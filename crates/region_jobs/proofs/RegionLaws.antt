@@ -1,6 +1,6 @@
 -- How long a region is.
-use Rattle.std.proofs.Common.{◌≡◌, ℕ, ◌+◌, ◌<◌, ◌≤◌, min, Bool, true, false, List, [], ◌∷◌, take, length, get_or, sym, ap, ◌∙◌, arith}
-use Rattle.std.specs.List.{AllWithin, prefix_len}
+use Rattle.std.proofs.Common.{◌≡◌, ℕ, ◌+◌, ◌<◌, ◌≤◌, min, true, false, List, [], ◌∷◌, take, length, get_or, sym, ap, ◌∙◌, arith}
+use Rattle.std.specs.List.{AllWithin}
 use Rattle.std.proofs.lemmas.List.{get_or-take, length-take}
 use Rattle.std.proofs.lemmas.List.Elements.{at_read, AllWithin-more, AllWithin-upto}
 use Rattle.std.proofs.lemmas.List.Sums.{prefix_len_is}

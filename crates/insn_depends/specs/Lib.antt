@@ -1,0 +1,2 @@
+pub mod Depends
+pub mod machine

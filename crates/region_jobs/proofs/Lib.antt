@@ -1,0 +1,4 @@
+pub mod RegionLaws
+pub mod AskLaws
+pub mod JobLaws
+pub mod KeptLaws

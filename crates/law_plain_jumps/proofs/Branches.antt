@@ -1,5 +1,6 @@
 -- Branches on a comparison of a register with a register, and with 0.
 use Rattle.std.proofs.Common.{◌≡◌, ℕ, suc, pos, ◌<◌, ◌^◌, Bool, true, false, if◌then◌else◌, List, [], ◌∷◌, ◌++◌, Option, Some, refl, ◌∙◌, ap}
+use Rattle.std.specs.Prelude.{ℤ}
 use Rattle.std.specs.List.{list_all}
 use Rattle.bits64.specs.declared.Width.TheVariants.{W8, W64}
 use Rattle.rtx_tree.specs.declared.code.Code.{Code}
@@ -64,25 +65,25 @@ branch_of relation.Geu = Branch NotLessUnsigned First Second
 
 -- ---- the instruction
 
--- (CODE:MODE (reg:DI A) OPERAND)
-abbrev pub compares : Relation → Mode → ℕ → Written → Written
-compares r m a operand = node (code_of r) m (pos 0) [] (with (register DI a) (with operand none))
+-- (CODE:MODE (reg:DI A) OPERAND), whose number no one looks at
+abbrev pub compares : Relation → Mode → ℤ → ℕ → Written → Written
+compares r m z a operand = node (code_of r) m z [] (with (register DI a) (with operand none))
 
 abbrev asked_of : Tree → List Need → Made
 asked_of t needs = record { term = t; needs = needs }
 
-made_with : (r : Relation) (m : Mode) (a : ℕ) (operand : Written) (t : Tree) (needs : List Need) → made operand W64 ≡ asked_of t needs →
-    made (compares r m a operand) W8 ≡ asked_of (compared r W64 (whole a) t) (Register (suc a) W64 ∷ needs)
-made_with relation.Eq m a operand t needs is = ap (λ v. asked_of (compared relation.Eq W64 (whole a) v.term) (Register (suc a) W64 ∷ v.needs)) is
-made_with relation.Ne m a operand t needs is = ap (λ v. asked_of (compared relation.Ne W64 (whole a) v.term) (Register (suc a) W64 ∷ v.needs)) is
-made_with relation.Lt m a operand t needs is = ap (λ v. asked_of (compared relation.Lt W64 (whole a) v.term) (Register (suc a) W64 ∷ v.needs)) is
-made_with relation.Gt m a operand t needs is = ap (λ v. asked_of (compared relation.Gt W64 (whole a) v.term) (Register (suc a) W64 ∷ v.needs)) is
-made_with relation.Le m a operand t needs is = ap (λ v. asked_of (compared relation.Le W64 (whole a) v.term) (Register (suc a) W64 ∷ v.needs)) is
-made_with relation.Ge m a operand t needs is = ap (λ v. asked_of (compared relation.Ge W64 (whole a) v.term) (Register (suc a) W64 ∷ v.needs)) is
-made_with relation.Ltu m a operand t needs is = ap (λ v. asked_of (compared relation.Ltu W64 (whole a) v.term) (Register (suc a) W64 ∷ v.needs)) is
-made_with relation.Gtu m a operand t needs is = ap (λ v. asked_of (compared relation.Gtu W64 (whole a) v.term) (Register (suc a) W64 ∷ v.needs)) is
-made_with relation.Leu m a operand t needs is = ap (λ v. asked_of (compared relation.Leu W64 (whole a) v.term) (Register (suc a) W64 ∷ v.needs)) is
-made_with relation.Geu m a operand t needs is = ap (λ v. asked_of (compared relation.Geu W64 (whole a) v.term) (Register (suc a) W64 ∷ v.needs)) is
+made_with : (r : Relation) (m : Mode) (z : ℤ) (a : ℕ) (operand : Written) (t : Tree) (needs : List Need) → made operand W64 ≡ asked_of t needs →
+    made (compares r m z a operand) W8 ≡ asked_of (compared r W64 (whole a) t) (Register (suc a) W64 ∷ needs)
+made_with relation.Eq m z a operand t needs is = ap (λ v. asked_of (compared relation.Eq W64 (whole a) v.term) (Register (suc a) W64 ∷ v.needs)) is
+made_with relation.Ne m z a operand t needs is = ap (λ v. asked_of (compared relation.Ne W64 (whole a) v.term) (Register (suc a) W64 ∷ v.needs)) is
+made_with relation.Lt m z a operand t needs is = ap (λ v. asked_of (compared relation.Lt W64 (whole a) v.term) (Register (suc a) W64 ∷ v.needs)) is
+made_with relation.Gt m z a operand t needs is = ap (λ v. asked_of (compared relation.Gt W64 (whole a) v.term) (Register (suc a) W64 ∷ v.needs)) is
+made_with relation.Le m z a operand t needs is = ap (λ v. asked_of (compared relation.Le W64 (whole a) v.term) (Register (suc a) W64 ∷ v.needs)) is
+made_with relation.Ge m z a operand t needs is = ap (λ v. asked_of (compared relation.Ge W64 (whole a) v.term) (Register (suc a) W64 ∷ v.needs)) is
+made_with relation.Ltu m z a operand t needs is = ap (λ v. asked_of (compared relation.Ltu W64 (whole a) v.term) (Register (suc a) W64 ∷ v.needs)) is
+made_with relation.Gtu m z a operand t needs is = ap (λ v. asked_of (compared relation.Gtu W64 (whole a) v.term) (Register (suc a) W64 ∷ v.needs)) is
+made_with relation.Leu m z a operand t needs is = ap (λ v. asked_of (compared relation.Leu W64 (whole a) v.term) (Register (suc a) W64 ∷ v.needs)) is
+made_with relation.Geu m z a operand t needs is = ap (λ v. asked_of (compared relation.Geu W64 (whole a) v.term) (Register (suc a) W64 ∷ v.needs)) is
 
 -- ---- the line, which reads its registers in one order or the other
 
@@ -143,16 +144,16 @@ line_leads number l r s q uid small b =
 abbrev AreSmallNeeds : List Need → Type 0
 AreSmallNeeds needs = list_all (λ n. is_small_need n.what) (needs_at 0 needs) ≡ true
 
-branch_by : (i : Insn) (number : ℕ) (live : List ℕ) (l : Line) (r : Relation) (m : Mode) (a q uid : ℕ) (operand : Written) (t : Tree) (needs : List Need) →
-    Leads i (chosen (compares r m a operand) uid) → uid < 2 ^ 32 → Branches number l r (suc a) q uid → made operand W64 ≡ asked_of t needs → read [] q W64 ≡ t →
+branch_by : (i : Insn) (number : ℕ) (live : List ℕ) (l : Line) (r : Relation) (m : Mode) (z : ℤ) (a q uid : ℕ) (operand : Written) (t : Tree) (needs : List Need) →
+    Leads i (chosen (compares r m z a operand) uid) → uid < 2 ^ 32 → Branches number l r (suc a) q uid → made operand W64 ≡ asked_of t needs → read [] q W64 ≡ t →
     IsSmall (compared r W64 (whole a) t) → AreSmallNeeds needs → AreSmallNeeds (both_needs (is_turned r) (suc a) q) →
     AreCovered (needs_at 0 (Register (suc a) W64 ∷ needs)) (needs_at 0 (both_needs (is_turned r) (suc a) q)) → Equated (i ∷ []) (Lines number (l ∷ [])) live
-branch_by i number live l r m a q uid operand t needs s small b is reads small_test small_needs small_asked covered =
-    let test = compares r m a operand in
+branch_by i number live l r m z a q uid operand t needs s small b is reads small_test small_needs small_asked covered =
+    let test = compares r m z a operand in
     leads_equated i (chosen test uid) number live l (record { condition = compared r W64 (whole a) t; target = Some uid }) (needs_at 0 (Register (suc a) W64 ∷ needs)) (needs_at 0 (both_needs (is_turned r) (suc a) q))
     s (branch_target test uid small)
     (branch_state test uid ∙ (ap (λ to. jumps (record { condition = (made test W8).term; target = to }) (needs_at 0 (made test W8).needs)) (target_is uid small) ∙
-    ap (λ v. jumps (record { condition = v.term; target = Some uid }) (needs_at 0 v.needs)) (made_with r m a operand t needs is)))
+    ap (λ v. jumps (record { condition = v.term; target = Some uid }) (needs_at 0 v.needs)) (made_with r m z a operand t needs is)))
     (ap (λ o. lines.fits_action o []) b.does ∙ ends r)
     (line_leads number l r (suc a) q uid small b ∙ ap (λ u. leading r (Some uid) (whole a) u (both_needs (is_turned r) (suc a) q)) reads)
     small_test small_needs small_asked covered
@@ -167,10 +168,10 @@ both_covered : (turned : Bool) (a b : ℕ) → AreCovered (needs_at 0 (Register 
 both_covered true a b = turned_covered (suc b) (suc a) W64 W64 []
 both_covered false a b = two_covered (suc a) (suc b) W64 W64 []
 
-pub branch_equated : (i : Insn) (number : ℕ) (live : List ℕ) (l : Line) (r : Relation) (m : Mode) (a b uid : ℕ) →
-    Leads i (chosen (compares r m a (register DI b)) uid) → uid < 2 ^ 32 → Branches number l r (suc a) (suc b) uid → Equated (i ∷ []) (Lines number (l ∷ [])) live
-branch_equated i number live l r m a b uid s small goes =
-    branch_by i number live l r m a (suc b) uid (register DI b) (whole b) (Register (suc b) W64 ∷ []) s small goes refl refl
+pub branch_equated : (i : Insn) (number : ℕ) (live : List ℕ) (l : Line) (r : Relation) (m : Mode) (z : ℤ) (a b uid : ℕ) →
+    Leads i (chosen (compares r m z a (register DI b)) uid) → uid < 2 ^ 32 → Branches number l r (suc a) (suc b) uid → Equated (i ∷ []) (Lines number (l ∷ [])) live
+branch_equated i number live l r m z a b uid s small goes =
+    branch_by i number live l r m z a (suc b) uid (register DI b) (whole b) (Register (suc b) W64 ∷ []) s small goes refl refl
     (small_condition r a b) refl (small_both (is_turned r) a b) (both_covered (is_turned r) a b)
 
 -- ---- a register and 0, which is register zero in the line
@@ -183,8 +184,8 @@ one_is_covered : (turned : Bool) (a : ℕ) → AreCovered (needs_at 0 (Register 
 one_is_covered true a = one_covered (suc a) W64 []
 one_is_covered false a = one_covered (suc a) W64 []
 
-pub zero_equated : (i : Insn) (number_of : ℕ) (live : List ℕ) (l : Line) (r : Relation) (m : Mode) (a uid : ℕ) →
-    Leads i (chosen (compares r m a (number 0)) uid) → uid < 2 ^ 32 → Branches number_of l r (suc a) 0 uid → Equated (i ∷ []) (Lines number_of (l ∷ [])) live
-zero_equated i number_of live l r m a uid s small goes =
-    branch_by i number_of live l r m a 0 uid (number 0) (constant W64 0) [] s small goes refl refl
+pub zero_equated : (i : Insn) (number_of : ℕ) (live : List ℕ) (l : Line) (r : Relation) (m : Mode) (z : ℤ) (a uid : ℕ) →
+    Leads i (chosen (compares r m z a (number 0)) uid) → uid < 2 ^ 32 → Branches number_of l r (suc a) 0 uid → Equated (i ∷ []) (Lines number_of (l ∷ [])) live
+zero_equated i number_of live l r m z a uid s small goes =
+    branch_by i number_of live l r m z a 0 uid (number 0) (constant W64 0) [] s small goes refl refl
     (small_with_zero r a) refl (small_one (is_turned r) a) (one_is_covered (is_turned r) a)

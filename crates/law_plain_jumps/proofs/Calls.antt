@@ -2,6 +2,7 @@
 use Rattle.std.proofs.Common.{◌≡◌, ℕ, suc, pos, zero, ◌+◌, ◌<◌, ◌≤◌, ◌==◌, nat_le, Bool, true, false, cond, ◌&&◌, List, [], ◌∷◌, ◌++◌, Option, Some, None, refl, sym, subst, ◌∙◌, ap, arith, bytes_eq}
 use Rattle.std.proofs.lemmas.Bool.Decides.{nat_tests}
 use Rattle.std.proofs.lemmas.Slice.Eq.{bytes_eq-Decides}
+use Rattle.std.specs.Prelude.{ℤ}
 use Rattle.std.specs.List.{list_all}
 use Rattle.std.specs.Int.{cast_unsigned, w64}
 use Rattle.bits64.specs.declared.Width.{Width}
@@ -51,9 +52,9 @@ use Rattle.law_plain_states.proofs.Rows.{both, one_covered, line_sets}
 
 -- ---- patterns
 
--- (symbol_ref:MODE NAME)
-abbrev pub symbol : Mode → List ℕ → Written
-symbol m name = node code.SymbolRef m (pos 0) name none
+-- (symbol_ref:MODE NAME), whose number no one looks at
+abbrev pub symbol : Mode → ℤ → List ℕ → Written
+symbol m z name = node code.SymbolRef m z name none
 
 -- (call (mem:SI ADDRESS) SIZE)
 abbrev pub call_of : Written → Written → Written
@@ -255,10 +256,10 @@ calls_name number l name does target = record {
 name_covered : (name : List ℕ) (more : List Need) → AreCovered (needs_at 0 (Symbol name ∷ more)) (needs_at 0 (Symbol name ∷ []))
 name_covered name more = both (is_covered (needs_at 0 (Symbol name ∷ more)) (Symbol name)) true (or_left _ _ ((bytes_eq-Decides name name).1 refl)) refl
 
-pub symbol_equated : (i : Insn) (number : ℕ) (live : List ℕ) (l : Line) (x : Written) (m : Mode) (name : List ℕ) (result : Option Mode) → Calls i x (symbol m name) result →
+pub symbol_equated : (i : Insn) (number : ℕ) (live : List ℕ) (l : Line) (x : Written) (m : Mode) (z : ℤ) (name : List ℕ) (result : Option Mode) → Calls i x (symbol m z name) result →
     action_of l ≡ Some action.Call → l.target ≡ name → Equated (i ∷ []) (Lines number (l ∷ [])) live
-symbol_equated i number live l x m name result s does target =
-    calls_equated i number live l x (symbol m name) result (own_symbol name) (Symbol name ∷ []) (Symbol name ∷ []) s (calls_name number l name does target) refl refl refl refl (name_covered name (args_needs [] i.uses))
+symbol_equated i number live l x m z name result s does target =
+    calls_equated i number live l x (symbol m z name) result (own_symbol name) (Symbol name ∷ []) (Symbol name ∷ []) s (calls_name number l name does target) refl refl refl refl (name_covered name (args_needs [] i.uses))
 
 -- ---- jalr ra,0(RS)
 

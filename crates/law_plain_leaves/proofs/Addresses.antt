@@ -72,9 +72,9 @@ base_code _ z is = absurd (let no : ⊥ = cc in no)
 -- a base of mode DI
 base_is : (x : Rtx) → is_shaped x ≡ true → is_machine x ≡ true → is_operand DI x ≡ true → is_base x ≡ true → IsRegister x DI
 base_is x shaped machine operand is =
-    let code = base_code (out-Rtx x).code (out-Rtx x).number is in
-    let n = machine_at x code machine in
-    record { number = n.number; small = n.small; is = register_in x DI n.number shaped code n.is (operand_mode x class.Register (ap class_of_code code) refl operand) }
+    let here = base_code (out-Rtx x).code (out-Rtx x).number is in
+    let n = machine_at x here machine in
+    record { number = n.number; small = n.small; is = register_in x DI n.number shaped here n.is (operand_mode x class.Register (ap class_of_code here) refl operand) }
 
 offset_code : (test : ℤ → Bool) (c : Code) (z : ℤ) → is_constant_at test c z ≡ true → (c ≡ code.ConstInt) × (test z ≡ true)
 offset_code test code.ConstInt z is = (refl, is)

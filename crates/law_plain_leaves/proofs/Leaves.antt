@@ -78,10 +78,10 @@ abbrev pub register : Mode → ℕ → Written
 register m n = node code.Reg m (pos (suc n)) [] none
 
 pub register_in : (x : Rtx) (m : Mode) (n : ℕ) → is_shaped x ≡ true → (out-Rtx x).code ≡ code.Reg → (out-Rtx x).number ≡ pos (suc n) → (out-Rtx x).mode ≡ m → x ≡ rtx (register m n)
-register_in x m n shaped code number mode =
-    let row = row_is x code.Reg code shaped in
+register_in x m n shaped is number mode =
+    let row = row_is x code.Reg is shaped in
     tree_is x code.Reg m (pos (suc n)) [] [] (record {
-      code = code;
+      code = is;
       mode = mode;
       number = number;
       name = nameless_is (out-Rtx x).name row.bare;
@@ -100,8 +100,8 @@ number_of (pos (suc n)) is = let two = two_of (nat_le 1 (suc n)) (nat_lt (suc n)
 number_of (negsuc n) is = cc
 
 pub machine_at : (x : Rtx) → (out-Rtx x).code ≡ code.Reg → is_machine x ≡ true → IsMachine x
-machine_at x code is =
-    let n = number_of (out-Rtx x).number (ap (λ c. is_machine_by c (out-Rtx x).number) (sym code) ∙ is) in
+machine_at x coded is =
+    let n = number_of (out-Rtx x).number (ap (λ c. is_machine_by c (out-Rtx x).number) (sym coded) ∙ is) in
     record { number = n.0; small = n.1; is = n.2 }
 
 -- none is a low part
@@ -118,9 +118,9 @@ pub record IsRegister (x : Rtx) (m : Mode) : Type 0 where
 
 pub register_is : (x : Rtx) (m : Mode) → IsMode m → is_shaped x ≡ true → is_machine x ≡ true → is_register x ≡ true → has_mode m x ≡ true → IsRegister x m
 register_is x m is shaped machine accepted moded =
-    let code = register_code (out-Rtx x).code (out-Rtx x).number x (out-Rtx x).kids machine accepted in
-    let n = machine_at x code machine in
-    record { number = n.number; small = n.small; is = register_in x m n.number shaped code n.is (mode_is m (out-Rtx x).mode is moded) }
+    let here = register_code (out-Rtx x).code (out-Rtx x).number x (out-Rtx x).kids machine accepted in
+    let n = machine_at x here machine in
+    record { number = n.number; small = n.small; is = register_in x m n.number shaped here n.is (mode_is m (out-Rtx x).mode is moded) }
 
 -- ---- constants
 
@@ -134,11 +134,11 @@ constant_code _ is = absurd (let no : ⊥ = cc in no)
 
 pub constant_is : (x : Rtx) → is_shaped x ≡ true → is_constant x ≡ true → x ≡ rtx (number (out-Rtx x).number)
 constant_is x shaped is =
-    let code = constant_code (out-Rtx x).code is in
-    let row = row_is x code.ConstInt code shaped in
+    let here = constant_code (out-Rtx x).code is in
+    let row = row_is x code.ConstInt here shaped in
     let kids = constant_parts (out-Rtx x).mode (number_at x) (out-Rtx x).kids row.fits in
     tree_is x code.ConstInt Void (out-Rtx x).number [] [] (record {
-      code = code;
+      code = here;
       mode = no_mode (out-Rtx x).mode (ap (λ kids. fits_row class.Constant (out-Rtx x).mode (number_at x) kids) (sym kids) ∙ row.fits);
       number = refl;
       name = nameless_is (out-Rtx x).name row.bare;
@@ -157,11 +157,11 @@ symbol_code _ is = absurd (let no : ⊥ = cc in no)
 
 pub symbol_is : (x : Rtx) → is_shaped x ≡ true → is_symbol x ≡ true → x ≡ rtx (symbol (out-Rtx x).number (out-Rtx x).name)
 symbol_is x shaped is =
-    let code = symbol_code (out-Rtx x).code is in
-    let row = row_is x code.SymbolRef code shaped in
+    let here = symbol_code (out-Rtx x).code is in
+    let row = row_is x code.SymbolRef here shaped in
     let kids = symbol_parts (out-Rtx x).mode (number_at x) (out-Rtx x).kids row.fits in
     tree_is x code.SymbolRef DI (out-Rtx x).number (out-Rtx x).name [] (record {
-      code = code;
+      code = here;
       mode = word_mode (out-Rtx x).mode (ap (λ kids. fits_row class.Symbol (out-Rtx x).mode (number_at x) kids) (sym kids) ∙ row.fits);
       number = refl;
       name = refl;

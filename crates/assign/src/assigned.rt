@@ -20,20 +20,14 @@ use rtx_tree::{Function, Insn};
 use rv_regs::allocation_order;
 use std::alloc::Global;
 
-// so many words have bits for `u32`s alone, and not for all of them
-const MOST_WORDS: usize = (1 << 26) - 1;
-
 /// The registers that stand in the instructions, as a row with a bit for each hard register.
 fn named_row(alloc: Global, insns: &[Insn]) -> Result<RegRow, Memory>
     ensures wide { IfOk result (λ row. 1 ≤ length row) }
-    ensures small { IfOk result (λ row. 64 * length row < 2 ^ 32) }
+    ensures small { IfOk result (λ row. 64 * length row ≤ 2 ^ 32) }
     ensures each { IfOk result (λ row. (reg : ℕ) → has row reg ≡ stands_in insns.now reg) }
 {
     let regs = registers_of(alloc, insns)?;
     let width = width_of(regs.as_slice(), 1);
-    if width > MOST_WORDS {
-        return Err(Memory);
-    }
     let row = RegRow::listed(alloc, regs.as_slice(), width)?;
     Ok(row)
 }
@@ -45,6 +39,7 @@ fn pick_in_order(
     width: usize,
     pseudos: &[u32],
 ) -> Result<Homes, Memory>
+    requires small { width ≤ 2 ^ 26 }
     requires sparse { AreSparse width rows.now }
     requires pseudos { All (λ k. registers.pseudo k < 2 ^ 32) pseudos.now }
     ensures pseudos { IfOk result (λ homes. map (λ x. x.pseudo) homes ≡ pseudos.now) }
@@ -57,8 +52,7 @@ fn pick_in_order(
 }
 
 /// A home for each pseudo register that the function names: a hard register, or a slot. The rows
-/// are those of the registers that are live in this function. A register from 2^32 - 64 on and a
-/// chain of 2^32 places or more find no memory.
+/// are those of the registers that are live in this function.
 pub fn assign(alloc: Global, f: &Function, live: &[RegRow]) -> Result<Homes, Memory>
     requires live { AreLiveRows f.now live.now }
     requires room { HaveRoom f.now live.now }

@@ -12,6 +12,8 @@ use reg_uses::{Regs, add_reads};
 use rtx_tree::{FIRST_PSEUDO, Insn};
 use std::alloc::Global;
 
+const WORD: usize = u64::BITS as usize;
+
 /// The registers that stand in the instructions.
 pub fn registers_of(alloc: Global, insns: &[Insn]) -> Result<Regs, Memory>
     ensures { IfOk result (λ regs. (reg : ℕ) → has_reg regs reg ≡ stands_in insns.now reg) }
@@ -37,14 +39,15 @@ fn add_pseudo(named: &RegRow, k: u32, pseudos: &mut Regs) -> Result<(), Memory>
 
 /// The pseudos of a set of registers, in increasing number.
 pub fn pseudos_of(alloc: Global, named: &RegRow) -> Result<Regs, Memory>
-    requires { 64 * length named.now < 2 ^ 32 }
+    requires { 64 * length named.now ≤ 2 ^ 32 }
     ensures ordered { IfOk result (λ pseudos. IsStrictlyIncreasing pseudos) }
     ensures each { IfOk result (λ pseudos. (k : ℕ) → has_reg pseudos k ≡ has named.now (pseudo k)) }
     ensures small { IfOk result (λ pseudos. All (λ k. pseudo k < 64 * length named.now) pseudos) }
 {
-    let end = (named.width() * 64) as u32;
+    let end = named.width() * WORD;
+    let count = end.saturating_sub(FIRST_PSEUDO as usize) as u32;
     let mut pseudos = Regs::new(alloc);
-    for k in 0..end.saturating_sub(FIRST_PSEUDO) {
+    for k in 0..count {
         add_pseudo(named, k, &mut pseudos)?;
     }
     Ok(pseudos)

@@ -1,5 +1,5 @@
 //! The first register that is free, for each pseudo in turn.
-ghost use Rattle.std.specs.Prelude.{◌≡◌, ℕ, ◌<◌, ◌^◌, ◌==◌, ◌||◌, ◌&&◌, not, nat_lt, length, vec_len, map, [], All, IfOk};
+ghost use Rattle.std.specs.Prelude.{◌≡◌, ℕ, ◌<◌, ◌≤◌, ◌^◌, ◌==◌, ◌||◌, ◌&&◌, not, nat_lt, length, vec_len, map, [], All, IfOk};
 ghost use Rattle.std.specs.List.{find};
 ghost use Rattle.rtx_tree.specs.Registers as registers;
 ghost use Rattle.reg_rows.specs.Table.{has_at};
@@ -34,7 +34,8 @@ fn block(rows: &[RegRow], reg: u32, hard: usize, blocked: &mut [RegRow])
 /// For each hard register the registers that can't have it since they conflict with it. The rows
 /// are of so many words, or of none.
 fn blocked_by_own(alloc: Global, rows: &[RegRow], width: usize) -> Result<Vec<RegRow>, Memory>
-    requires { AreSparse width rows.now }
+    requires small { width ≤ 2 ^ 26 }
+    requires sparse { AreSparse width rows.now }
     ensures long { IfOk result (λ blocked. vec_len blocked ≡ 64) }
     ensures alike { IfOk result (λ blocked. AreAlike rows.now blocked.items) }
     ensures blocked { IfOk result (λ blocked. AreBlocked rows.now [] blocked.items) }
@@ -83,6 +84,7 @@ pub fn pick(
     order: &[u8],
     pseudos: &[u32],
 ) -> Result<Homes, Memory>
+    requires small { width ≤ 2 ^ 26 }
     requires sparse { AreSparse width rows.now }
     requires order { All (λ hard. hard < 64) order.now }
     requires pseudos { All (λ k. registers.pseudo k < 2 ^ 32) pseudos.now }

@@ -10,7 +10,7 @@ ghost use Rattle.func_image.specs.Image.{UnitsCome, WordsCome, ImageComes};
 
 use func_input::read_functions;
 use image_text::text_of;
-use law_assembly::compile;
+use law_assembly::assembled;
 use md_desc::Description;
 use pass_name::Road;
 use plain_data::{Items, Memory};
@@ -63,7 +63,7 @@ fn image_read(
 ) -> Result<Vec<u8>, Refusal>
     ensures { Gives result (FunctionsComeTo (WordsCome description.now) functions.now) }
 {
-    let assembly = compile(alloc, description, Road::Usual, functions)?;
+    let assembly = assembled(alloc, description, Road::Usual, functions)?;
     let units = units_of(alloc, functions, assembly.parts)?;
     units_text(alloc, units.as_slice())
 }

@@ -15,8 +15,8 @@ use Rattle.func_after.proofs.law_output.Written.{written_is_same}
 use Rattle.func_text.specs.declared.assembly.Assembly.{Assembly}
 use Rattle.func_text.specs.Assembly.{AssemblyComes}
 use Rattle.func_text.specs.Lines.{IsAssembly}
-use Rattle.func_text.specs.Same.{HasBehaviour, AreSound, AreSame, AreSameFramed}
-use Rattle.func_text.proofs.Laws.{is_assembly}
+use Rattle.func_text.specs.Same.{AreParts, HasBehaviour, AreSound, AreSame, AreSameFramed}
+use Rattle.func_text.proofs.Laws.{is_assembly, are_parts}
 
 -- what is written of what the passes make of a function has the function's behaviour
 written_same : (forms : List Entry) (road : Road) (number : ℕ) (f : Function) (m : Made) (piece : Piece) → IsDescribed forms → IsSound f →
@@ -52,6 +52,9 @@ are_same forms road number _ _ described sound (IsAssembly.function _ f m functi
     (are_same forms road (number + 1) functions rest described (λ index h at. sound (suc index) h at) others)
 
 -- and so of all that were compiled
+pub compiled_parts : (forms : List Entry) (road : Road) (functions : List Function) (a : Assembly) → AssemblyComes forms road functions (Ok a) → AreParts functions a.text a.parts
+compiled_parts forms road functions a comes = are_parts forms road 0 functions a (is_assembly forms road functions a comes)
+
 pub compiled_framed : (forms : List Entry) (road : Road) (functions : List Function) (a : Assembly) → IsDescribed forms → AreSound functions →
     AssemblyComes forms road functions (Ok a) → AreSameFramed forms road functions a.parts
 compiled_framed forms road functions a described sound comes = are_framed forms road 0 functions a described sound (is_assembly forms road functions a comes)

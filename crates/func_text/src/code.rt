@@ -6,7 +6,7 @@ ghost use Rattle.func_text.specs.Code as codes;
 ghost use Rattle.func_text.specs.Code.{Answer, Gives, NameComes, CodeComes, IsCodedAt, IsUnnamed};
 
 use crate::assembly::{Assembly, CodeItems};
-use crate::input::compile;
+use crate::input::assembled;
 use func_input::read_functions;
 use md_desc::Description;
 use pass_name::Road;
@@ -58,7 +58,7 @@ fn name_comes(
     let Some(place) = place_named(functions.as_slice(), name) else {
         return Err(Refusal::Usage);
     };
-    let assembly = compile(alloc, description, Road::Usual, functions.as_slice())?;
+    let assembly = assembled(alloc, description, Road::Usual, functions.as_slice())?;
     Ok(coded_at(functions, assembly, place))
 }
 
@@ -69,7 +69,7 @@ fn name_comes(
 /// # Errors
 ///
 /// `Usage` where no function has the name; `Syntax`, `Limit`, `Construct`, `IllFormed`,
-/// `Unmatched`, `Unsatisfied`, `NotEquated`, or `Memory` as [`compile`] says.
+/// `Unmatched`, `Unsatisfied`, `NotEquated`, or `Memory` as [`assembled`] says.
 pub fn code_of(
     alloc: Global,
     description: &Description,

@@ -8,7 +8,7 @@ ghost use Rattle.lisp_read.specs.machine.Reader.{front_of, state_of, Gives, bloc
 use crate::class::{Bracket, ByteClass, classify};
 use crate::mode::Mode;
 use crate::stack::{Frame, Stack};
-use crate::tree::{Tree, Trees};
+use crate::tree::{Tree, Trees, fitted};
 use plain_data::{Items, Memory};
 use rtx_tree::{MOST_OPEN, Name, Place};
 use std::alloc::Global;
@@ -75,7 +75,7 @@ impl Reader {
     }
 
     /// Closes a list or vector.
-    fn close(&mut self, kind: Bracket) -> Result<(), StepError>
+    fn close(&mut self, alloc: Global, kind: Bracket) -> Result<(), StepError>
         ensures { Gives result (state_of self.new) (closed (front_of self.old) kind) }
     {
         let Some(
@@ -91,7 +91,7 @@ impl Reader {
         if open != kind {
             return Err(StepError::Syntax);
         }
-        let items = mem::replace(&mut self.items, before);
+        let items = fitted(alloc, mem::replace(&mut self.items, before))?;
         self.items.push(Tree::nested(kind, place, items))?;
         self.mode = Mode::Between;
         Ok(())
@@ -129,7 +129,7 @@ impl Reader {
                 text: Items::new(alloc),
             },
             ByteClass::Open(kind) => self.open(alloc, here, kind)?,
-            ByteClass::Close(kind) => self.close(kind)?,
+            ByteClass::Close(kind) => self.close(alloc, kind)?,
         }
         Ok(())
     }

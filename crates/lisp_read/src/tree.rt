@@ -1,9 +1,10 @@
 //! Trees of a text.
-ghost use Rattle.std.specs.Prelude.{◌≡◌};
+ghost use Rattle.std.specs.Prelude.{◌≡◌, IfOk};
 
 use crate::class::Bracket;
-use plain_data::Items;
+use plain_data::{Items, Memory};
 use rtx_tree::{Name, Place};
+use std::alloc::Global;
 
 /// A tree of a text, with the place of its first byte. Contracts see it as plain data: two trees
 /// are equal in a clause where they agree in all parts, places included.
@@ -23,6 +24,25 @@ pub enum Tree {
 
 /// A list of trees.
 pub type Trees = Items<Tree>;
+
+/// How many trees are moved to a room of their own size. More keep the start of the room in which
+/// they grew, so that a long list is never held twice.
+const MOST_MOVED: usize = 16;
+
+/// The same trees in just the room that they take. A list grows in a room for four trees at least;
+/// where few are moved out of it, the next list grows there.
+pub(crate) fn fitted(alloc: Global, trees: Trees) -> Result<Trees, Memory>
+    ensures { IfOk result (λ same. same ≡ trees) }
+{
+    let mut grown = trees.into_vec();
+    if grown.len() > MOST_MOVED {
+        grown.shrink_to_fit();
+        return Ok(Items::from_vec(grown));
+    }
+    let mut moved = Vec::with_capacity(alloc, grown.len())?;
+    moved.append(&mut grown)?;
+    Ok(Items::from_vec(moved))
+}
 
 impl Tree {
     ghost use Rattle.lisp_read.specs.Part.{parts_of, parts_of_all, enclosed};

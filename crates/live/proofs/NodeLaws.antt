@@ -1,5 +1,5 @@
 -- Paths of the graph and paths of the chain.
-use Rattle.std.proofs.Common.{◌≡◌, ℕ, zero, suc, ◌+◌, ◌*◌, ◌<◌, true, eqb, List, [], ◌∷◌, ◌++◌, length, Some, inl, inr, refl, sym, ap, subst, ◌∙◌, arith, ◌⊎◌}
+use Rattle.std.proofs.Common.{◌≡◌, ℕ, zero, suc, ◌+◌, ◌*◌, ◌^◌, ◌<◌, true, eqb, List, [], ◌∷◌, ◌++◌, length, get_or, Some, inl, inr, refl, sym, ap, subst, ◌∙◌, arith, ◌⊎◌}
 use Rattle.std.specs.Prelude.{slice_get, All}
 use Rattle.std.proofs.lemmas.Bool.{or_cases, eqb-true, false≢true}
 use Rattle.std.proofs.lemmas.List.{length_push}
@@ -97,10 +97,11 @@ AreNodes-push f nodes new each long is =
       ];
     }
 
-pub AreLiveRows-from : (f : Function) (nodes : List Node) (rows : List (List ℕ)) → AreNodes f nodes → IsLiveRows nodes rows → AreLiveRows f rows
-AreLiveRows-from f nodes rows are exact =
+pub AreLiveRows-from : (f : Function) (nodes : List Node) (rows : List (List ℕ)) → AreNodes f nodes → rows_room.HaveRoom nodes rows → IsLiveRows nodes rows → AreLiveRows f rows
+AreLiveRows-from f nodes rows are room exact =
     record {
       long = omega (arith, are.long, exact.long);
+      narrow = λ k d l. (let e : length (get_or rows k d) ≡ room.width = room.table.widths k d l in omega (arith, e, room.table.small));
       sound = λ p reg h. to_live f nodes are reg p (exact.sound p reg h);
       complete = λ p reg live. exact.complete p reg (from_live f nodes are reg p live);
     }
@@ -120,9 +121,10 @@ fits_at width [] p node all at = absurd (none-some node at)
 fits_at width (n ∷ nodes) zero node all at = subst (Fits width) (same_Some n node at) (all 0 n (omega arith))
 fits_at width (n ∷ nodes) (suc p) node all at = fits_at width nodes p node (λ k d l. all (suc k) d (omega arith)) at
 
-pub HaveRoom-from : (f : Function) (nodes : List Node) (rows : List (List ℕ)) → AreNodes f nodes → rows_room.HaveRoom nodes rows → HaveRoom f rows
-HaveRoom-from f nodes rows are room =
+pub HaveRoom-from : (f : Function) (nodes : List Node) (rows : List (List ℕ)) → AreNodes f nodes → rows_room.HaveRoom nodes rows → length f.insns < 2 ^ 32 → HaveRoom f rows
+HaveRoom-from f nodes rows are room short =
     record {
+      short = short;
       width = room.width;
       table = room.table;
       defined = λ p i reg at d.

@@ -1,5 +1,5 @@
 -- Where registers are live: GCC Internals, "Liveness information".
-use Rattle.std.specs.Prelude.{◌≡◌, ◌↔◌, ℕ, ◌+◌, ◌*◌, ◌<◌, Bool, true, false, ◌||◌, ◌&&◌, List, Some, slice_get, length}
+use Rattle.std.specs.Prelude.{◌≡◌, ◌↔◌, ℕ, ◌+◌, ◌*◌, ◌^◌, ◌<◌, ◌≤◌, Bool, true, false, ◌||◌, ◌&&◌, List, Some, slice_get, length, All}
 use Rattle.std.specs.List.Sorted.{IsStrictlyIncreasing}
 use Rattle.rtx_tree.specs.declared.function.Insn.{Insn}
 use Rattle.rtx_tree.specs.declared.function.Function.{Function}
@@ -32,14 +32,17 @@ pub record AreLiveAfter (f : Function) (p : ℕ) (regs : List ℕ) : Type 0 wher
   pub each : (reg : ℕ) → (has_reg regs reg ≡ true) ↔ IsLiveAfter f reg p
 
 -- for each place of the chain, and at last for its end, there is the row of the registers that are
--- live before it
+-- live before it, with no more words of 64 bits than numbers of 32 bits ask for
 pub record AreLiveRows (f : Function) (rows : List (List ℕ)) : Type 0 where
   pub long : length rows ≡ length f.insns + 1
+  pub narrow : All (λ row. length row ≤ 2 ^ 26) rows
   pub sound : (p reg : ℕ) → has_at rows p reg ≡ true → IsLive f reg p
   pub complete : (p reg : ℕ) → IsLive f reg p → has_at rows p reg ≡ true
 
--- the rows are of one width, with room for each register that an instruction defines
+-- the rows are of one width, with room for each register that an instruction defines, and a number
+-- of 32 bits tells each place
 pub record HaveRoom (f : Function) (rows : List (List ℕ)) : Type 0 where
+  pub short : length f.insns < 2 ^ 32
   pub width : ℕ
   pub table : IsTable width rows
   pub defined : (p : ℕ) (i : Insn) (reg : ℕ) → slice_get f.insns p ≡ Some i →

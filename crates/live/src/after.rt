@@ -1,5 +1,5 @@
 //! The registers that are live after a place.
-ghost use Rattle.std.specs.Prelude.{◌≡◌, ◌<◌, ◌^◌, ℕ, ◌||◌, IfOk, OnOk, length};
+ghost use Rattle.std.specs.Prelude.{◌≡◌, ◌<◌, ◌≤◌, ◌^◌, ℕ, ◌||◌, IfOk, OnOk, length, All};
 ghost use Rattle.std.specs.Ordering.{nat_cmp};
 ghost use Rattle.std.specs.BTreeMap as map;
 ghost use Rattle.rtx_tree.specs.Patterns.{place_of};
@@ -18,6 +18,7 @@ use std::alloc::Global;
 
 /// Adds the registers of the row of a place, if it is one.
 fn add_place(rows: &[RegRow], place: Option<u32>, set: &mut RegSet) -> Result<(), Memory>
+    requires { All (λ row. length row ≤ 2 ^ 26) rows.now }
     ensures { OnOk result ((reg : ℕ) →
         has_reg set.new reg ≡ (has_reg set.old reg || at_place place rows.now reg)) }
 {
@@ -32,6 +33,7 @@ fn add_place(rows: &[RegRow], place: Option<u32>, set: &mut RegSet) -> Result<()
 
 /// The registers that are live at the places to which an instruction leads.
 fn live_at(alloc: Global, rows: &[RegRow], next: Successors) -> Result<RegSet, Memory>
+    requires { All (λ row. length row ≤ 2 ^ 26) rows.now }
     ensures { (f : Function) (place : ℕ) → AreLiveRows f rows.now →
         places_in next ≡ successors_of f.insns place →
         IfOk result (AreLiveAfter f place) }

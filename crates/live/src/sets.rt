@@ -1,5 +1,5 @@
 //! Rows as sets of registers.
-ghost use Rattle.std.specs.Prelude.{◌≡◌, ℕ, ◌==◌, ◌||◌, ◌&&◌, OnOk};
+ghost use Rattle.std.specs.Prelude.{◌≡◌, ℕ, ◌^◌, ◌≤◌, ◌==◌, ◌||◌, ◌&&◌, length, OnOk};
 ghost use Rattle.rtx_tree.specs.RegSet.{has_reg};
 ghost use Rattle.reg_rows.specs.Row.{has};
 
@@ -8,8 +8,6 @@ use reg_rows::RegRow;
 use rtx_tree::RegSet;
 
 const WORD: usize = u64::BITS as usize;
-// so many words have a bit for each `u32`
-const MOST_WORDS: usize = 1 << 26;
 
 /// Adds register `reg` if the row has it.
 fn add_register(row: &RegRow, reg: u32, set: &mut RegSet) -> Result<(), Memory>
@@ -23,14 +21,12 @@ fn add_register(row: &RegRow, reg: u32, set: &mut RegSet) -> Result<(), Memory>
     }
 }
 
-/// Adds the registers of a row. A row past `u32` finds no memory.
+/// Adds the registers of a row.
 pub fn add_row(row: &RegRow, set: &mut RegSet) -> Result<(), Memory>
+    requires { length row.now ≤ 2 ^ 26 }
     ensures { OnOk result ((reg : ℕ) →
         has_reg set.new reg ≡ (has_reg set.old reg || has row.now reg)) }
 {
-    if row.width() > MOST_WORDS {
-        return Err(Memory);
-    }
     let end = row.width() * WORD;
     let mut reg = 0;
     while reg < end {

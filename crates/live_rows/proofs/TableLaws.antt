@@ -16,4 +16,4 @@ uses_push (r ∷ rows) (n ∷ nodes) row node long each here zero reg = each 0 r
 uses_push (r ∷ rows) (n ∷ nodes) row node long each here (suc at) reg = uses_push rows nodes row node (omega arith) (λ at reg. each (suc at) reg) here at reg
 
 pub IsTable-push : (width : ℕ) (rows : List (List ℕ)) (row : List ℕ) → IsTable width rows → length row ≡ width → sum row ≤ width * (2 ^ 64 - 1) → IsTable width (rows ++ row ∷ [])
-IsTable-push width rows row table long fits = record { widths = All-push (λ row. length row ≡ width) rows row table.widths long; fits = All-push (λ row. sum row ≤ width * (2 ^ 64 - 1)) rows row table.fits fits }
+IsTable-push width rows row table long fits = record { small = table.small; widths = All-push (λ row. length row ≡ width) rows row table.widths long; fits = All-push (λ row. sum row ≤ width * (2 ^ 64 - 1)) rows row table.fits fits }

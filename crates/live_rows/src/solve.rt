@@ -16,7 +16,8 @@ use std::mem;
 
 /// For each place the registers that it uses.
 fn rows_of_uses(alloc: Global, nodes: &[Node], width: usize) -> Result<Vec<RegRow>, Memory>
-    requires { All (Fits width) nodes.now }
+    requires small { width ≤ 2 ^ 26 }
+    requires fits { All (Fits width) nodes.now }
     ensures long { IfOk result (λ rows. vec_len rows ≡ length nodes.now) }
     ensures each { IfOk result (λ rows. (at reg : ℕ) →
         has_at rows.items at reg ≡ uses_at nodes.now at reg) }
@@ -63,9 +64,9 @@ fn solve(
 
 /// A width from `least` on with room for each register that a node uses or defines.
 fn width_with(node: &Node, least: usize) -> usize
-    requires { least ≤ 2 ^ 32 }
+    requires { least ≤ 2 ^ 26 }
     ensures from { least ≤ result }
-    ensures small { result ≤ 2 ^ 32 }
+    ensures small { result ≤ 2 ^ 26 }
     ensures room { Fits result node.now }
 {
     let width = width_of(node.uses.as_slice(), least);
@@ -74,7 +75,8 @@ fn width_with(node: &Node, least: usize) -> usize
 
 /// A width with room for each register that a node uses or defines.
 fn width_for(nodes: &[Node]) -> usize
-    ensures { All (Fits result) nodes.now }
+    ensures small { result ≤ 2 ^ 26 }
+    ensures fits { All (Fits result) nodes.now }
 {
     let mut width = 0;
     for node in nodes {

@@ -14,6 +14,7 @@ use Rattle.md_iter.specs.declared.substitution.Instance.{Instance}
 use Rattle.md_tables.specs.md_draft.Draft.{entry_of}
 use Rattle.md_tables.specs.Tables.{tables_of}
 use Rattle.md_forms.specs.Checks.{form_of}
+use Rattle.md_forms.specs.Shown.{shown_name}
 
 abbrev pub judged_form : Tables → Result Draft Reason → Result Form Reason
 judged_form tables (Ok d) = form_of tables d
@@ -46,11 +47,12 @@ count_of head es = count_by (has_head head) es
 abbrev pub numbered : List ℕ → ℕ → List ℕ
 numbered head k = head ++ (64 ∷ decimal k)
 
+-- the name of a form, or its head with its number
 abbrev pub shown : Option (List ℕ) → List ℕ → ℕ → List ℕ
-shown (Some name) head k = name
+shown (Some name) head k = shown_name name
 shown None head k = numbered head k
 
--- the name of a form e behind some others: a form without a name has its head and its number among
+-- the name under which a form e behind some others is shown: a form without a name has its head and its number among
 -- those of the head
 abbrev pub name_behind : List Entry → Entry → List ℕ
 name_behind front e = shown e.name e.head (count_of e.head front)

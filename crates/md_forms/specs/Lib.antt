@@ -2,6 +2,7 @@ pub mod Names
 pub mod Checks
 pub mod Forms
 pub mod Reasons
+pub mod Shown
 pub mod machine
 pub use Rattle.md_tables.specs.c_cond as c_cond
 pub use Rattle.md_tables.specs.md_draft as md_draft

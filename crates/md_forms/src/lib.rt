@@ -4,13 +4,14 @@
 //! parts, a [`Form`], or the smallest [`Reason`] that applies to it. What a form's own text says is
 //! read by `md_draft`; which predicates, constraints and attributes hold is said in `md_tables`,
 //! what else is asked of a form in `specs/Checks.antt`. [`names_of`] gives the names under which
-//! they are shown.
+//! they are shown, and [`shown_name`] any name on one line.
 #![tactic(auto)]
 
 mod checks;
 mod form;
 mod forms;
 mod names;
+mod one_line;
 mod operands;
 mod shown;
 
@@ -21,4 +22,5 @@ pub use md_tables::{
     Attribute, FormHead, Judged, Reason, RegisterClass, copied_names, defines_attribute,
     defines_constraint, defines_predicate,
 };
+pub use one_line::shown_name;
 pub use shown::names_of;

@@ -4,6 +4,7 @@ ghost use Rattle.md_forms.specs.machine.Counts.{count_in, CountsOneMore};
 ghost use Rattle.md_forms.specs.Forms as spec;
 
 use crate::form::Entry;
+use crate::one_line::shown_name;
 use indexmap::IndexMap;
 use plain_data::{Items, Memory};
 use rtx_tree::Name;
@@ -52,7 +53,7 @@ fn shown(alloc: Global, form: &Entry, number: usize) -> Result<Name, Memory>
     ensures { IfOk result (λ name. name ≡ spec.shown form.now.name form.now.head number) }
 {
     match &form.name {
-        Some(name) => name.copy(alloc),
+        Some(name) => Ok(shown_name(name.copy(alloc)?)),
         None => numbered(alloc, form.head.bytes(), number),
     }
 }
@@ -73,8 +74,9 @@ fn push_next(
     names.push(shown(alloc, form, number)?)
 }
 
-/// The names under which the forms of a description are shown, in order: each its own, or else its
-/// head, `@`, and its number among the forms of that head.
+/// The names under which the forms of a description are shown, in order: each its own, with a
+/// question mark for each control character, or else its head, `@`, and its number among the forms
+/// of that head.
 #[tactic(auto, using(crate::proofs::ShownNames::named_ends, crate::proofs::CountLaws::few))]
 pub fn names_of(alloc: Global, forms: &[Entry]) -> Result<Items<Name>, Memory>
     ensures names { IfOk result (λ names. names ≡ spec.names_of forms.now) }

@@ -1,5 +1,5 @@
 //! The rows of conflicts.
-ghost use Rattle.std.specs.Prelude.{◌≡◌, ℕ, ◌*◌, ◌<◌, ◌^◌, ◌||◌, length, vec_len, false, true, slice_get, Some, IfOk, OnOk};
+ghost use Rattle.std.specs.Prelude.{◌≡◌, ℕ, ◌*◌, ◌<◌, ◌≤◌, ◌^◌, ◌||◌, length, vec_len, false, true, slice_get, Some, IfOk, OnOk};
 ghost use Rattle.std.specs.Ordering.{nat_cmp};
 ghost use Rattle.std.specs.BTreeMap as map;
 ghost use Rattle.rtx_tree.specs.Patterns.{place_of};
@@ -20,8 +20,6 @@ use rtx_tree::{Function, Insn};
 use std::alloc::Global;
 
 const WORD: usize = u64::BITS as usize;
-// so many words have bits for `u32`s alone, and not for all of them
-const MOST_WORDS: usize = (1 << 26) - 1;
 
 /// Adds the conflicts of what one instruction defines with what is live after it.
 fn add_insn(
@@ -39,7 +37,7 @@ fn add_insn(
     requires live { IsTable (length set.old) live.now }
     requires sparse { AreSparse (length set.old) rows.old }
     requires long { length rows.old ≡ 64 * length set.old }
-    requires small { 64 * length set.old < 2 ^ 32 }
+    requires small { 64 * length set.old ≤ 2 ^ 32 }
     requires room { (reg : ℕ) → uses.insn_defines insn.now reg ≡ true → reg < 64 * length set.old }
     ensures width { length set.new ≡ length set.old }
     ensures sparse { AreSparse (length set.old) rows.new }
@@ -65,7 +63,7 @@ fn fill(
     requires live { IsTable (length set.old) live.now }
     requires sparse { AreSparse (length set.old) rows.old }
     requires long { length rows.old ≡ 64 * length set.old }
-    requires small { 64 * length set.old < 2 ^ 32 }
+    requires small { 64 * length set.old ≤ 2 ^ 32 }
     requires room { (p : ℕ) (i : Insn) (reg : ℕ) → slice_get f.now.insns p ≡ Some i →
         uses.insn_defines i reg ≡ true → reg < 64 * length set.old }
     requires none { (x y : ℕ) → has_at rows.old x y ≡ false }
@@ -105,7 +103,7 @@ fn bare_rows(alloc: Global, count: usize) -> Result<Vec<RegRow>, Memory>
 
 /// For each register below 64 times the width of the rows of what is live the row of those with
 /// which it conflicts, of the same width, or without words where it has no conflict; nor have the
-/// others any. More words than `u32` counts bits for, and 2^32 places or more, find no memory.
+/// others any.
 pub fn conflict_rows(alloc: Global, f: &Function, live: &[RegRow]) -> Result<Vec<RegRow>, Memory>
     requires live { AreLiveRows f.now live.now }
     requires room { HaveRoom f.now live.now }
@@ -114,9 +112,6 @@ pub fn conflict_rows(alloc: Global, f: &Function, live: &[RegRow]) -> Result<Vec
         IfOk result (λ rows. AreSparse width rows.items) }
 {
     let width = width_of_rows(live);
-    if width > MOST_WORDS || f.insns.len() > u32::MAX as usize {
-        return Err(Memory);
-    }
     let mut rows = bare_rows(alloc, width * WORD)?;
     let mut set = RegRow::new(alloc, width)?;
     fill(alloc, f, live, rows.as_mut_slice(), &mut set)?;

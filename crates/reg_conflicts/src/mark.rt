@@ -69,7 +69,7 @@ fn mark_other(
 fn mark_others(alloc: Global, rows: &mut [RegRow], reg: u32, set: &RegRow) -> Result<(), Memory>
     requires sparse { AreSparse (length set.now) rows.old }
     requires long { length rows.old ≡ 64 * length set.now }
-    requires small { 64 * length set.now < 2 ^ 32 }
+    requires small { 64 * length set.now ≤ 2 ^ 32 }
     requires room { reg < 64 * length set.now }
     ensures sparse { AreSparse (length set.now) rows.new }
     ensures each { OnOk result ((x y : ℕ) →
@@ -105,7 +105,7 @@ fn mark_own(alloc: Global, rows: &mut [RegRow], reg: u32, set: &RegRow) -> Resul
 fn mark_one(alloc: Global, rows: &mut [RegRow], reg: u32, set: &RegRow) -> Result<(), Memory>
     requires sparse { AreSparse (length set.now) rows.old }
     requires long { length rows.old ≡ 64 * length set.now }
-    requires small { 64 * length set.now < 2 ^ 32 }
+    requires small { 64 * length set.now ≤ 2 ^ 32 }
     requires room { reg < 64 * length set.now }
     ensures sparse { AreSparse (length set.now) rows.new }
     ensures each { OnOk result ((x y : ℕ) → has_at rows.new x y ≡
@@ -120,7 +120,7 @@ fn mark_one(alloc: Global, rows: &mut [RegRow], reg: u32, set: &RegRow) -> Resul
 pub fn mark(alloc: Global, rows: &mut [RegRow], regs: &[u32], set: &RegRow) -> Result<(), Memory>
     requires sparse { AreSparse (length set.now) rows.old }
     requires long { length rows.old ≡ 64 * length set.now }
-    requires small { 64 * length set.now < 2 ^ 32 }
+    requires small { 64 * length set.now ≤ 2 ^ 32 }
     requires room { All (λ reg. reg < 64 * length set.now) regs.now }
     ensures sparse { AreSparse (length set.now) rows.new }
     ensures each { OnOk result ((x y : ℕ) → has_at rows.new x y ≡

@@ -1,10 +1,15 @@
 //! Runs at the limits, of which the input is generated, and outcomes that no run meets.
+use asm_out::write_function;
 use byte_edge::{ByteFiles, ByteSink, ByteSource, Files, QuietFiles};
 use case_text::Told;
 use code_eval::{code_ending, print_line, rtl_ending};
 use func_run::Standing;
+use md_desc::Description;
+use md_named::description_of;
+use pass_refusal::PassRefusal;
 use plain_data::Memory;
-use rtlc_run::run;
+use rtlc_run::{Refusal, run};
+use rtx_tree::{Function, Limit};
 use rv_line::CodeStanding;
 use std::alloc::Global;
 
@@ -163,4 +168,68 @@ fn registers_of_a_parallel_are_looked_up_at_once(rt: HostRuntime) {
     let text = long_parallel(rt.alloc(), 10_000);
     assert!(rt; text.is_whole());
     assert!(rt; is_assembled(rt.alloc(), &text.out, 2, "rtlc: p:5: rule 8\n"));
+}
+
+/// The greatest number of bytes of an assembly.
+const MOST: usize = 268_435_456;
+
+/// The text of the assembly of a function without a name and instructions has so many bytes.
+const LEAST: usize = 59;
+
+/// How many bytes there are behind a text and the assembly of a function without a name and
+/// instructions, or the number that is told where they are too many for an assembly; 0 where
+/// something else is told.
+fn bytes_behind(
+    alloc: Global,
+    description: &Description,
+    text: &mut Vec<u8>,
+) -> Result<usize, u64> {
+    let mut items = Vec::new(alloc);
+    let f = Function::empty(alloc);
+    match write_function(alloc, description, 0, &f, text, &mut items) {
+        Ok(()) => Ok(text.len()),
+        Err(
+            PassRefusal::Limit {
+                which: Limit::Output,
+                count,
+            },
+        ) => Err(count),
+        Err(_) => Err(0),
+    }
+}
+
+/// What is told behind so many bytes.
+fn told_behind(
+    alloc: Global,
+    description: &Description,
+    text: &mut Vec<u8>,
+    size: usize,
+) -> Result<usize, u64> {
+    text.truncate(size);
+    bytes_behind(alloc, description, text)
+}
+
+/// What is told behind a whole assembly, where one byte is too many, and where none is.
+fn told_at_the_limit(
+    alloc: Global,
+) -> Result<(Result<usize, u64>, Result<usize, u64>, Result<usize, u64>), Refusal> {
+    let mut files = files_of(alloc, b"")?;
+    let description = description_of(alloc, &mut files, b"d")?;
+    let blanks = "                                                                ";
+    let mut text = repeated(alloc, blanks, 4_194_304);
+    Ok((
+        told_behind(alloc, &description, &mut text.out, MOST),
+        told_behind(alloc, &description, &mut text.out, MOST - LEAST + 1),
+        told_behind(alloc, &description, &mut text.out, MOST - LEAST),
+    ))
+}
+
+#[test]
+fn an_assembly_has_so_many_bytes(rt: HostRuntime) {
+    assert!(rt;
+        matches!(
+            told_at_the_limit(rt.alloc()),
+            Ok((Err(268_435_457), Err(268_435_457), Ok(268_435_456)))
+        )
+    );
 }

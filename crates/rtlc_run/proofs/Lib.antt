@@ -3,5 +3,4 @@ pub mod Tellings
 pub mod Described
 pub mod Answered
 pub mod Runs
-pub mod Bytes
 pub mod Statuses

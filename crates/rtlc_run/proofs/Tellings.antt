@@ -14,10 +14,9 @@ use Rattle.md_named.specs.Named.{FormsCome}
 use Rattle.md_named.specs.Answers.{RefusesForms}
 use Rattle.func_input.specs.Input.{InputComesTo, RefusesWith}
 use Rattle.func_input.specs.Outcome.{Outcome}
-use Rattle.pass_name.specs.declared.road.Road.{Road}
 use Rattle.pass_name.specs.declared.road.Road.TheVariants.{Usual}
 use Rattle.func_image.specs.func_text.Assembly as assembly
-use Rattle.func_image.specs.func_text.Compile.{FunctionsCome, InputComes, TextComes}
+use Rattle.func_image.specs.func_text.Compile.{FunctionsCome}
 use Rattle.func_image.specs.func_text.Code.{CodeComes, Gives as GivesCode}
 use Rattle.rtl_make.specs.Made.{made}
 use Rattle.rtlc_words.specs.declared.command.Told.{Told}
@@ -135,10 +134,7 @@ assembly_refused P Q follows (refusal.Unmatched function uid stage insn) h = fol
 assembly_refused P Q follows (refusal.Unsatisfied function uid form insn) h = follows (refusal.Unsatisfied function uid form insn) h
 assembly_refused P Q follows (refusal.NotEquated function uid rule item left right) h = follows (refusal.NotEquated function uid rule item left right) h
 
--- its text, and its summary
-pub text_refused : (forms : List Entry) (road : Road) (bytes : List ℕ) (e : Refusal) → RefusesWith e (InputComes forms road bytes) → Gives (Err e) (TextComes forms road bytes)
-text_refused forms road bytes e h = assembly_refused (InputComes forms road bytes) (TextComes forms road bytes) (λ e comes. (Err e, comes, refl)) e h
-
+-- its summary
 pub summary_refused : (number : ℕ) (forms : List Entry) (e : Refusal) → RefusesWith e (FunctionsCome forms Usual (made number ∷ [])) → Gives (Err e) (SummaryComes number forms)
 summary_refused number forms e h = assembly_refused (FunctionsCome forms Usual (made number ∷ [])) (SummaryComes number forms) (λ e comes. (Err e, comes, refl)) e h
 

@@ -85,8 +85,7 @@ fn assembled(
     ensures own { IsOwn result }
     ensures read { result ≢ Err Refusal.ReadFault }
 {
-    let assembly = assembly_of(alloc, description, road, bytes)?;
-    Ok(assembly.text.into_vec())
+    assembly_of(alloc, description, road, bytes)
 }
 
 /// The forms of the instructions of the functions among bytes.

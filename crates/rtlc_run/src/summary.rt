@@ -54,6 +54,13 @@ pub(crate) fn summary_of(
     ensures read { result ≢ Err Refusal.ReadFault }
 {
     let function = made(alloc, u32::from(number))?;
-    let assembly = compile(alloc, description, Road::Usual, slice::from_ref(&function))?;
-    Ok(summary_text(alloc, &assembly.summary)?)
+    let mut text = Vec::new(alloc);
+    let summary = compile(
+        alloc,
+        description,
+        Road::Usual,
+        slice::from_ref(&function),
+        &mut text,
+    )?;
+    Ok(summary_text(alloc, &summary)?)
 }

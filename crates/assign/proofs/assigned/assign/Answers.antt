@@ -14,6 +14,12 @@ use Rattle.assign.proofs.NamedLaws.{stands_in-pseudo}
 use Rattle.assign.proofs.OneLaws.{only}
 use Rattle.assign.proofs.assigned.assign.Goals as goal
 
+pub pick_in_order-requires-clause-small : goal.pick_in_order-requires-clause-small
+pick_in_order-requires-clause-small c =
+    let room = c.requires.room in
+    let is = c.width_of_rows-width.ensures room.width room.table (omega (arith, c.requires.live.long)) in
+    omega (arith, is, room.table.small)
+
 pub pick_in_order-requires-clause-sparse : goal.pick_in_order-requires-clause-sparse
 pick_in_order-requires-clause-sparse c =
     let room = c.requires.room in

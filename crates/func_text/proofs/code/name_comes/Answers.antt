@@ -12,13 +12,13 @@ returns-in_err-assembly-clause-comes c =
     let p = err_from_is_err_and c.from_residual.result c.from_residual.ensures.1 in
     rw (p.1, p.2)
     (name_refused c.args.description.now c.args.functions c.args.name.now c.in-Some.place c.in_err-assembly.field-0.0 (rw c.as_slice.ensures.value at (sym c.place_named.ensures.place ∙ c.in-Some.is))
-    (rw c.as_slice-2.ensures.value at c.in_err-assembly.ensures.gives))
+    (rw c.as_slice-2.ensures.value at c.in_err-assembly.ensures))
 
 pub coded_at-requires-clause-part : goal.coded_at-requires-clause-part
 coded_at-requires-clause-part c =
-    subst (λ (n : ℕ). c.in-Some.place < n) (sym (parts_of c.args.description.now c.args.functions c.in_ok-assembly.assembly (rw c.as_slice-2.ensures.value at c.in_ok-assembly.ensures.gives)))
+    subst (λ (n : ℕ). c.in-Some.place < n) (sym (parts_of c.args.description.now c.args.functions c.in_ok-assembly.assembly (rw c.as_slice-2.ensures.value at c.in_ok-assembly.ensures)))
     (rw c.as_slice.ensures.value at c.in-Some.ensures.within)
 
 pub returns-clause-comes : goal.returns-clause-comes
 returns-clause-comes c =
-    NameComes.coded c.in-Some.place c.in_ok-assembly.assembly c.coded_at.result (rw c.as_slice.ensures.value at (sym c.place_named.ensures.place ∙ c.in-Some.is)) (rw c.as_slice-2.ensures.value at c.in_ok-assembly.ensures.gives) c.coded_at.ensures
+    NameComes.coded c.in-Some.place c.in_ok-assembly.assembly c.coded_at.result (rw c.as_slice.ensures.value at (sym c.place_named.ensures.place ∙ c.in-Some.is)) (rw c.as_slice-2.ensures.value at c.in_ok-assembly.ensures) c.coded_at.ensures

@@ -12,7 +12,7 @@ use Rattle.live_rows.proofs.solve.rows_of_uses.Goals as goal
 pub listed-requires : goal.listed-requires
 listed-requires c =
     let node = c.node-item.result in
-    let fits : Fits c.args.width node = subst (Fits c.args.width) (sym c.node-item.is) (c.requires c.loop-node.node-index node (omega arith)) in
+    let fits : Fits c.args.width node = subst (Fits c.args.width) (sym c.node-item.is) (c.requires.fits c.loop-node.node-index node (omega arith)) in
     subst (All (λ reg. reg < 64 * c.args.width)) (sym c.as_slice.ensures.value) fits.uses
 
 pub loop-node-preserved : goal.loop-node-preserved

@@ -13,5 +13,5 @@ loop-node-preserved c =
       room = fits-more c.args.nodes.now c.loop-node.node-index c.loop-node.width c.width_with-width.result c.node-item.result (omega arith) c.node-item.is inv.room new.from new.room;
     }
 
-pub returns : goal.returns
-returns c = All-taken (Fits c.loop-node.width) c.args.nodes.now c.loop-node.node-index (omega arith) c.loop-node.invariant.room
+pub returns-clause-fits : goal.returns-clause-fits
+returns-clause-fits c = All-taken (Fits c.loop-node.width) c.args.nodes.now c.loop-node.node-index (omega arith) c.loop-node.invariant.room

@@ -4,6 +4,16 @@ use Rattle.reg_rows.specs.Table.{IsTable}
 use Rattle.reg_conflicts.specs.machine.Sparse.{AreSparse}
 use Rattle.reg_conflicts.proofs.fill.conflict_rows.Goals as goal
 
+pub overflow_mul-width : goal.overflow_mul-width
+overflow_mul-width c =
+    let is = c.width_of_rows-width.ensures c.requires.room.width c.requires.room.table (omega (arith, c.requires.live.long)) in
+    omega (arith, is, c.requires.room.table.small)
+
+pub fill-requires-clause-small : goal.fill-requires-clause-small
+fill-requires-clause-small c =
+    let is = c.width_of_rows-width.ensures c.requires.room.width c.requires.room.table (omega (arith, c.requires.live.long)) in
+    omega (arith, is, c.in_ok-set.ensures.width, c.requires.room.table.small)
+
 pub fill-requires-clause-live : goal.fill-requires-clause-live
 fill-requires-clause-live c =
     let is = c.width_of_rows-width.ensures c.requires.room.width c.requires.room.table (omega (arith, c.requires.live.long)) in

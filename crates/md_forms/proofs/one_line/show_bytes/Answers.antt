@@ -1,6 +1,6 @@
 use Rattle.std.proofs.Common.{◌≡◌, ◌<◌, length, set, suc, ap, sym, ◌∙◌, arith, add-one}
-use Rattle.rtlc_run.proofs.Bytes.{shown_from, shown_next, shown_all}
-use Rattle.rtlc_run.proofs.shown.show_bytes.Goals as goal
+use Rattle.md_forms.proofs.ShownBytes.{shown_from, shown_next, shown_all}
+use Rattle.md_forms.proofs.one_line.show_bytes.Goals as goal
 
 pub loop-byte-preserved : goal.loop-byte-preserved
 loop-byte-preserved c =

@@ -1,6 +1,6 @@
 -- A list of which the bytes from a place on are told.
 use Rattle.std.proofs.Common.{◌≡◌, ℕ, zero, suc, ◌<◌, List, [], ◌∷◌, length, map, set, get_or, refl, ap, arith}
-use Rattle.rtlc_run.specs.Shown.{shown_byte}
+use Rattle.md_forms.specs.Shown.{shown_byte}
 
 -- the bytes from a place on as they are told
 abbrev pub shown_from : ℕ → List ℕ → List ℕ

@@ -102,11 +102,12 @@ AreWide (u ∷ uses) = ((w : Width) × (width_of u.mode ≡ Some w)) × AreWide 
 
 args_have : (count from reg : ℕ) → from ≤ reg → reg < from + count → arg_at (args_from count from []) reg ≡ Some (read [] reg W64)
 args_have zero from reg least most = absurd (omega (arith, least, most))
-args_have (suc count) from reg least most = go (from == reg) refl
+args_have (suc count) from reg least most = go (from == reg) refl (λ next. args_have count (suc from) reg next (omega (arith, most)))
   where
-    go : (b : Bool) → (from == reg) ≡ b → cond b (Some (read [] from W64)) (arg_at (args_from count (suc from) []) reg) ≡ Some (read [] reg W64)
-    go true is = let same : from ≡ reg = grind (arith, nat_tests, is) in ap (λ r. Some (read [] r W64)) same
-    go false is = args_have count (suc from) reg (grind (arith, nat_tests, is, least)) (omega (arith, most))
+    go : (b : Bool) → (from == reg) ≡ b → (suc from ≤ reg → arg_at (args_from count (suc from) []) reg ≡ Some (read [] reg W64)) →
+        cond b (Some (read [] from W64)) (arg_at (args_from count (suc from) []) reg) ≡ Some (read [] reg W64)
+    go true is rest = let same : from ≡ reg = grind (arith, nat_tests, is) in ap (λ r. Some (read [] r W64)) same
+    go false is rest = rest (grind (arith, nat_tests, is, least))
 
 -- the low bits of what a line hands over
 cuts : (w : Width) (reg : ℕ) → cut_beside (Some (read [] (suc reg) w)) (Some (read [] (suc reg) W64)) ≡ Some (read [] (suc reg) w)

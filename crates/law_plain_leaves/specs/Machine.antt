@@ -1,6 +1,6 @@
 -- Trees behind reload: their registers are those of the machine. GCC Internals, "Registers and Memory"
 -- and "RTL passes" (reload); RISC-V unprivileged manual, "Programmers' Model for Base Integer ISA".
-use Rattle.std.specs.Prelude.{◌≡◌, ℕ, ℤ, pos, negsuc, nat_le, nat_lt, ◌&&◌, Bool, true, false}
+use Rattle.std.specs.Prelude.{◌≡◌, ℤ, pos, negsuc, nat_le, nat_lt, ◌&&◌, Bool, true, false}
 use Rattle.std.specs.List.{list_all}
 use Rattle.rtx_tree.specs.declared.code.Code.{Code}
 use Rattle.rtx_tree.specs.declared.code.Code.TheVariants.{Reg, Subreg}

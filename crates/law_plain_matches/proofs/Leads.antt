@@ -55,7 +55,7 @@ module _ (accepts : Accepts) (facts : Facts) (condition : Tree) (insn : Rtx) (op
   jumps_there : (o : Option Rtx) → option_map (λ xs. node_of code.Set Void xs) (all_some (Some (leaf_of code.Pc Void (pos 0)) ∷ option_map (λ xs. node_of code.LabelRef Void xs) (all_some (o ∷ [])) ∷ [])) ≡ Some insn →
       (x : Rtx) × (o ≡ Some x) × (insn ≡ set_rtx (leaf_of code.Pc Void (pos 0)) (label_of x))
   jumps_there None is = cc
-  jumps_there (Some x) is = (x, (refl, sym (some_same (set_rtx (leaf_of code.Pc Void (pos 0)) (label_of x)) insn is)))
+  jumps_there (Some x) is = (x, refl, sym (some_same (set_rtx (leaf_of code.Pc Void (pos 0)) (label_of x)) insn is))
 
   pub jumps : Matched (set_of pc (label 0)) → Jumps
   jumps matched =
@@ -79,7 +79,7 @@ module _ (accepts : Accepts) (facts : Facts) (condition : Tree) (insn : Rtx) (op
   calls_there : (o u : Option Rtx) (y : Rtx) → call_made o u ≡ Some y → (x : Rtx) × (z : Rtx) × (o ≡ Some x) × (u ≡ Some z) × (y ≡ call_of x z)
   calls_there None u y is = cc
   calls_there (Some x) None y is = cc
-  calls_there (Some x) (Some z) y is = (x, (z, (refl, (refl, sym (some_same (call_of x z) y is)))))
+  calls_there (Some x) (Some z) y is = (x, z, refl, refl, sym (some_same (call_of x z) y is))
 
   pub calls : (p : List ℕ) (m : Mode) → Matched (call 0 p m 1) → Calls p m
   calls p m matched =
@@ -105,7 +105,7 @@ module _ (accepts : Accepts) (facts : Facts) (condition : Tree) (insn : Rtx) (op
   calls_for_there : (r c : Option Rtx) → option_map (λ xs. node_of code.Set Void xs) (all_some (r ∷ c ∷ [])) ≡ Some insn → (x : Rtx) × (y : Rtx) × (r ≡ Some x) × (c ≡ Some y) × (insn ≡ set_rtx x y)
   calls_for_there None c is = cc
   calls_for_there (Some x) None is = cc
-  calls_for_there (Some x) (Some y) is = (x, (y, (refl, (refl, sym (some_same (set_rtx x y) insn is)))))
+  calls_for_there (Some x) (Some y) is = (x, y, refl, refl, sym (some_same (set_rtx x y) insn is))
 
   pub calls_for : (q : List ℕ) (n : Mode) (p : List ℕ) (m : Mode) → Matched (set_of (operand q 0 n) (call 1 p m 2)) → CallsFor q n p m
   calls_for q n p m matched =

@@ -42,14 +42,14 @@ some_same a b is = cc
 
 one_there : (c : Code) (m : Mode) (o : Option Rtx) (x : Rtx) → of_one c m o ≡ Some x → (y : Rtx) × (o ≡ Some y) × (x ≡ node_of c m (y ∷ []))
 one_there c m None x is = cc
-one_there c m (Some y) x is = (y, (refl, sym (some_same (node_of c m (y ∷ [])) x is)))
+one_there c m (Some y) x is = (y, refl, sym (some_same (node_of c m (y ∷ [])) x is))
 
 two_there : (c : Code) (m : Mode) (o p : Option Rtx) (x : Rtx) → of_two c m o p ≡ Some x → (y : Rtx) × (z : Rtx) × (o ≡ Some y) × (p ≡ Some z) × (x ≡ node_of c m (y ∷ z ∷ []))
 two_there c m None p x is = cc
 two_there c m (Some y) None x is = cc
-two_there c m (Some y) (Some z) x is = (y, (z, (refl, (refl, sym (some_same (node_of c m (y ∷ z ∷ [])) x is)))))
+two_there c m (Some y) (Some z) x is = (y, z, refl, refl, sym (some_same (node_of c m (y ∷ z ∷ [])) x is))
 
-pub stands_at : (accepts : Accepts) (operands : Ops) (name : List ℕ) (k : ℕ) (m : Mode) (x : Rtx) → operand_at operands k ≡ Some x → is_accepted accepts operands (rtx (operand name k m)) ≡ true →
+abbrev pub stands_at : (accepts : Accepts) (operands : Ops) (name : List ℕ) (k : ℕ) (m : Mode) (x : Rtx) → operand_at operands k ≡ Some x → is_accepted accepts operands (rtx (operand name k m)) ≡ true →
     Stands accepts operands name k m
 stands_at accepts operands name k m x at is = record { tree = x; at = at; accepted = sym (accepted_is accepts operands name k m x at) ∙ is }
 

@@ -1,0 +1,5 @@
+pub mod Own
+pub mod Tests
+pub mod Predicates
+pub mod Constraints
+pub mod Plain

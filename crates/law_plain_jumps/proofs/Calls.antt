@@ -234,7 +234,7 @@ calls_equated i number live l x address result target had asked s by is small sm
     let uses = i.uses in
     let all = needs_at 0 (had ++ args_needs [] uses) in
     let here : insns.after 0 i start ≡ calls target result (args_of [] uses) all =
-            insn_calls i x address result s ∙ ap (λ v. calls v.term result (args_of [] uses) (needs_at 0 (v.needs ++ args_needs [] uses))) is in
+    insn_calls i x address result s ∙ ap (λ v. calls v.term result (args_of [] uses) (needs_at 0 (v.needs ++ args_needs [] uses))) is in
     let fits = ap (λ k. fits_kind k i true) s.call ∙ both (is_shaped i) true s.shaped refl in
     let comes = insn_runs i fits (ap is_within here ∙ small_call target result (args_of [] uses) (had ++ args_needs [] uses) small (small_args uses s.wide) (small_both had (args_needs [] uses) small_had (small_args_needs uses))) in
     let goes = line_runs number l by.fits (ap is_within by.state ∙ small_call target None (args_from 8 10 []) asked small refl small_asked) ∙ ap Runs by.state in

@@ -20,7 +20,7 @@ use Rattle.rv_text.specs.declared.line.Line.{Line}
 use Rattle.rv_text.specs.declared.action.Action.TheVariants as action
 use Rattle.term_mean.specs.Sums.{constant}
 use Rattle.term_tree.specs.Small.{is_small}
-use Rattle.sym_state.specs.State.{NeedAt, Runs, start, is_within, is_small_need} 
+use Rattle.sym_state.specs.State.{NeedAt, Runs, start, is_within, is_small_need}
 use Rattle.sym_state.specs.State as state
 use Rattle.sym_insns.specs.Run as insns
 use Rattle.sym_insns.specs.Effects as effects
@@ -81,7 +81,6 @@ pub record Leads (i : Insn) (source : Written) : Type 0 where
   pub jump : i.kind ≡ Jump
   pub shaped : is_shaped i ≡ true
   pub pattern : i.pattern ≡ rtx (leads source)
-
 
 stays : (i : Insn) (source : Written) → Leads i source → is_return i ≡ false
 stays i source s = ap (λ p. is_return_code (head_of p).code) s.pattern ∙ ap (λ o. is_return_code o.code) (outside_is (leads source))

@@ -1,5 +1,5 @@
 -- The predicates that the manual has.
-use Rattle.std.proofs.Common.{◌≡◌, List, codes, true, refl}
+use Rattle.std.proofs.Common.{◌≡◌, List, [], codes, true, refl}
 use Rattle.rtx_tree.specs.declared.code.Mode.{Mode}
 use Rattle.rtx_tree.specs.declared.tree.Rtx.{Rtx}
 use Rattle.md_forms.specs.declared.form.Entry.{Entry}

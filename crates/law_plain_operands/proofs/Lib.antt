@@ -3,3 +3,4 @@ pub mod Tests
 pub mod Predicates
 pub mod Constraints
 pub mod Plain
+pub mod Members

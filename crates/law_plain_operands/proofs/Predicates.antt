@@ -1,17 +1,19 @@
 -- What the predicates that the plain forms define accept.
-use Rattle.std.proofs.Common.{◌≡◌, ◌⊎◌, inl, inr, ℕ, suc, pos, Bool, true, false, ◌&&◌, ◌||◌, List, [], ◌∷◌, length, ◌+◌, codes, Option, Some, None, refl, sym, ap, ◌∙◌, arith}
+use Rattle.std.proofs.Common.{◌≡◌, ◌⊎◌, inl, inr, ℕ, suc, pos, Bool, true, false, ◌&&◌, ◌||◌, List, [], ◌∷◌, length, ◌+◌, codes, Option, None, refl, sym, ap, ◌∙◌, arith}
 use Rattle.std.specs.Ordering.{int_eq}
+use Rattle.rtx_tree.specs.declared.code.Code.{Code}
 use Rattle.rtx_tree.specs.declared.code.Code.TheVariants as code
 use Rattle.rtx_tree.specs.declared.code.Mode.{Mode}
 use Rattle.rtx_tree.specs.declared.code.Mode.TheVariants.{Void}
-use Rattle.rtx_tree.specs.declared.tree.Rtx.{Rtx}
+use Rattle.rtx_tree.specs.declared.tree.Rtx.{Rtx, out-Rtx}
 use Rattle.md_operand.specs.declared.own.Own.{Own}
-use Rattle.md_operand.specs.Operand.{own_named, register_operand, const_int_operand, is_symbol}
+use Rattle.md_operand.specs.Operand.{own_named, register_operand, const_int_operand, is_symbol, is_symbol_code}
+use Rattle.c_eval.specs.Value.{is_a, same_code}
 use Rattle.pred_expr.specs.declared.question.Question.TheVariants as question
 use Rattle.pred_expr.specs.declared.question.Test.{Test}
 use Rattle.pred_rows.specs.Tests.{Accepts, test_step, test_holds}
 use Rattle.md_forms.specs.declared.form.Entry.{Entry}
-use Rattle.md_pred.specs.Holds.{is_of_mode, definition_holds, defined, own_or, defined_within, within, holds}
+use Rattle.md_pred.specs.Holds.{is_of_mode, definition_holds, defined, own_or, defined_within, holds}
 use Rattle.rtx_open.proofs.Tests as tests
 use Rattle.plain_forms.specs.Conditions as condition
 use Rattle.law_plain_operands.specs.Have.{HasPredicate, HavePlain}
@@ -46,6 +48,19 @@ of_two a b = tests.node question.Ior (tests.with (tests.any a) (tests.with (test
 any_of : (accepts : Accepts) (x : Rtx) (m : Mode) (a b : Test) → test_holds accepts x m (condition.any a b) ≡ true → (test_holds accepts x m a ≡ true) ⊎ (test_holds accepts x m b ≡ true)
 any_of accepts x m a b is = either (test_holds accepts x m a) (test_holds accepts x m b) (sym (tests.gathers (test_step accepts x m) (of_two a b)) ∙ is)
 
+-- a symbol
+symbol_code : (c : Code) → same_code c code.SymbolRef ≡ is_symbol_code c
+symbol_code code.SymbolRef = refl
+symbol_code _ = refl
+
+alone : (p : Bool) → (p || false) ≡ true → p ≡ true
+alone true is = refl
+alone false is = cc
+
+symbol_asked : (accepts : Accepts) (x : Rtx) (m : Mode) → test_holds accepts x m (condition.has_code code.SymbolRef) ≡ true → is_symbol x ≡ true
+symbol_asked accepts x m is =
+    sym (symbol_code (out-Rtx x).code) ∙ alone (is_a code.SymbolRef x) (sym (tests.gathers (test_step accepts x m) (tests.node (question.Codes (code.SymbolRef ∷ [])) tests.none)) ∙ is)
+
 -- a predicate that the manual has
 asks : (forms : List Entry) (x : Rtx) (m : Mode) (name : List ℕ) → test_holds (others forms) x m (condition.accepted name) ≡ others forms name x m
 asks forms x m name = tests.gathers (test_step (others forms) x m) (tests.node (question.Predicate name Void) tests.none)
@@ -70,3 +85,12 @@ module _ (forms : List Entry) (have : HavePlain forms) (x : Rtx) (m : Mode) wher
           (register_operand m x ≡ true) ⊎ (const_int_operand m x ≡ true)
       go (inl is) = inl (sym (asks forms x m (codes "register_operand")) ∙ is)
       go (inr is) = inr (sym (asks forms x m (codes "const_int_operand")) ∙ is)
+
+  -- a register, or a symbol
+  pub called : holds forms (codes "call_operand") x m ≡ true → (register_operand m x ≡ true) ⊎ (is_symbol x ≡ true)
+  called is = go (any_of (others forms) x m (condition.accepted (codes "register_operand")) (condition.has_code code.SymbolRef) (second (is_of_mode m x) _ (sym (tested forms (codes "call_operand") condition.register_or_symbol x m refl have.called) ∙ is)))
+    where
+      go : (test_holds (others forms) x m (condition.accepted (codes "register_operand")) ≡ true) ⊎ (test_holds (others forms) x m (condition.has_code code.SymbolRef) ≡ true) →
+          (register_operand m x ≡ true) ⊎ (is_symbol x ≡ true)
+      go (inl is) = inl (sym (asks forms x m (codes "register_operand")) ∙ is)
+      go (inr is) = inr (symbol_asked (others forms) x m is)

@@ -1,5 +1,5 @@
 -- Branches on a comparison of a register with a register, and with 0.
-use Rattle.std.proofs.Common.{◌≡◌, ℕ, suc, pos, ◌<◌, ◌^◌, Bool, true, false, if◌then◌else◌, List, [], ◌∷◌, ◌++◌, Option, Some, refl, ◌∙◌, ap}
+use Rattle.std.proofs.Common.{◌≡◌, ℕ, suc, ◌<◌, ◌^◌, Bool, true, false, if◌then◌else◌, List, [], ◌∷◌, ◌++◌, Option, Some, refl, ◌∙◌, ap}
 use Rattle.std.specs.Prelude.{ℤ}
 use Rattle.std.specs.List.{list_all}
 use Rattle.bits64.specs.declared.Width.TheVariants.{W8, W64}
@@ -21,7 +21,6 @@ use Rattle.term_tree.specs.Tree.{Tree}
 use Rattle.term_mean.specs.Sums.{constant}
 use Rattle.term_mean.specs.Compared.{compared}
 use Rattle.sym_state.specs.State.{State, Need, Register, is_small_need, needs_at, start}
-use Rattle.sym_state.specs.State as state
 use Rattle.sym_state.specs.Registers.{read, read_needs}
 use Rattle.sym_insns.specs.Value.{Made}
 use Rattle.sym_lines.specs.Run as lines
@@ -32,7 +31,6 @@ use Rattle.law_plain_terms.specs.Rows.{whole, IsSmall}
 use Rattle.law_plain_states.specs.Frames.{AreCovered, jumps}
 use Rattle.law_plain_states.proofs.Effects.{register, made}
 use Rattle.law_plain_states.proofs.Rows.{two_covered, turned_covered, one_covered, line_sets}
-use Rattle.law_plain_states.proofs.Computes.{is_set}
 use Rattle.law_plain_jumps.proofs.Jumped.{Leads, chosen, number, target_is, line_target, leads_equated, branch_state, branch_target}
 use Rattle.law_plain_jumps.proofs.Conditions.{small_condition, small_with_zero}
 

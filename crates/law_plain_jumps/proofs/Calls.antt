@@ -1,5 +1,5 @@
 -- Calls of a symbol and of an address in a register, with a result or without.
-use Rattle.std.proofs.Common.{◌≡◌, ℕ, suc, pos, zero, ◌+◌, ◌<◌, ◌≤◌, ◌==◌, nat_le, Bool, true, false, cond, ◌&&◌, List, [], ◌∷◌, ◌++◌, Option, Some, None, refl, sym, subst, ◌∙◌, ap, arith, bytes_eq}
+use Rattle.std.proofs.Common.{◌≡◌, ℕ, suc, pos, zero, ◌+◌, ◌<◌, ◌≤◌, ◌==◌, nat_le, Bool, true, false, cond, ◌&&◌, List, [], ◌∷◌, ◌++◌, Option, Some, None, refl, sym, subst, ◌∙◌, ap, arith}
 use Rattle.std.proofs.lemmas.Bool.Decides.{nat_tests}
 use Rattle.std.proofs.lemmas.Slice.Eq.{bytes_eq-Decides}
 use Rattle.std.specs.Prelude.{ℤ}
@@ -23,21 +23,19 @@ use Rattle.rtl_step.specs.Effect.{address_part}
 use Rattle.rv_text.specs.Lines.{action_of}
 use Rattle.rv_text.specs.declared.line.Line.{Line}
 use Rattle.rv_text.specs.declared.action.Action.TheVariants as action
-use Rattle.term_tree.specs.Tree as trees
 use Rattle.term_tree.specs.Tree.{Tree}
 use Rattle.term_tree.specs.Small.{is_small}
 use Rattle.term_mean.specs.Masks.{cut_8, cut_16, cut_32}
-use Rattle.sym_state.specs.State.{State, Arg, Need, NeedAt, Register, Symbol, Runs, start, is_within, is_small_need, needs_at, own_symbol, own_register}
+use Rattle.sym_state.specs.State.{State, Arg, Need, Register, Symbol, Runs, start, is_within, is_small_need, needs_at, own_symbol}
 use Rattle.sym_state.specs.Registers.{read, read_needs}
 use Rattle.sym_insns.specs.Run as insns
 use Rattle.sym_insns.specs.Effects as effects
 use Rattle.sym_insns.specs.Effects.{after_call, made_target, result_mode, result_by, args_of, args_needs, arg_in, made_arg}
 use Rattle.sym_insns.specs.Shape.{is_shaped, fits_kind, all_natural}
-use Rattle.sym_insns.specs.Value.{Made, made_of}
 use Rattle.sym_lines.specs.Run as lines
 use Rattle.sym_lines.specs.Step.{args_from}
 use Rattle.sym_diff.specs.Registers.{cut_beside}
-use Rattle.sym_diff.specs.Compared.{arg_at, arg_beside, covers, is_covered}
+use Rattle.sym_diff.specs.Compared.{arg_at, arg_beside, is_covered}
 use Rattle.sym_diff.specs.States.{difference}
 use Rattle.sym_diff.proofs.NumberLaws.{or_left}
 use Rattle.equate.specs.Side.{Lines, is_jump, is_one_return}

@@ -1,5 +1,5 @@
 -- The conditions under which branches lead to their labels are within the limit on terms.
-use Rattle.std.proofs.Common.{ℕ, suc, refl, sym, subst, [], ◌∷◌}
+use Rattle.std.proofs.Common.{ℕ, suc, refl, sym, subst}
 use Rattle.std.specs.declared.cmp.Ordering.{Ordering}
 use Rattle.std.specs.declared.cmp.Ordering.TheVariants.{Less, Equal, Greater}
 use Rattle.std.specs.Ordering.{nat_cmp, ordering_then}
@@ -13,11 +13,11 @@ use Rattle.term_tree.specs.Tree.{Tree}
 use Rattle.term_mean.specs.Sums.{constant}
 use Rattle.term_mean.specs.Masks.{made_8}
 use Rattle.term_mean.specs.Less.{less_unless, less_test, less_than}
-use Rattle.term_mean.specs.Zero.{zero_test, equals_zero}
+use Rattle.term_mean.specs.Zero.{zero_test}
 use Rattle.term_mean.specs.Truths.{opposite}
 use Rattle.term_mean.specs.Compared.{compared, same_in}
 use Rattle.law_plain_terms.specs.Rows.{whole, IsSmall}
-use Rattle.law_plain_terms.proofs.Equal.{difference, test, is_test}
+use Rattle.law_plain_terms.proofs.Equal.{test, is_test}
 
 -- a truth and its opposite
 abbrev AreSmall : Tree → Type 0

@@ -27,7 +27,6 @@ use Rattle.sym_insns.specs.Effects as effects
 use Rattle.sym_insns.specs.Effects.{uid_in, target_uid, after_jump, jump_by, jump_source, jump_label, label_by, has_target, always}
 use Rattle.sym_insns.specs.Shape.{is_shaped, fits_kind}
 use Rattle.sym_lines.specs.Run as lines
-use Rattle.sym_lines.specs.Step as step
 use Rattle.sym_lines.proofs.Labels.{label_uid-law}
 use Rattle.sym_diff.specs.States.{difference}
 use Rattle.equate.specs.Side.{Lines, is_jump, is_one_return}

@@ -1,13 +1,12 @@
 -- What is put in for placeholders, and what is asked of it.
 use Rattle.std.proofs.Common.{◌≡◌, ℕ, pos, Bool, true, false, ◌&&◌, List, [], ◌∷◌, Option, Some, None, refl, sym, ap, ◌∙◌}
-use Rattle.std.specs.Prelude.{option_map, option_and_then, if◌then◌else◌}
+use Rattle.std.specs.Prelude.{if◌then◌else◌}
 use Rattle.std.specs.List.{list_all}
 use Rattle.std.specs.Option.{option_map_or}
 use Rattle.rtx_tree.specs.declared.code.Code.TheVariants as code
 use Rattle.rtx_tree.specs.declared.code.Mode.{Mode}
-use Rattle.rtx_tree.specs.declared.tree.Rtx.{Rtx, out-Rtx}
+use Rattle.rtx_tree.specs.declared.tree.Rtx.{Rtx}
 use Rattle.rtx_tree.specs.Operands.{operand_at}
-use Rattle.rtx_tree.specs.Tree.{head_of}
 use Rattle.c_cond.specs.declared.tree.Tree.{Tree}
 use Rattle.c_eval.specs.declared.facts.Facts.{Facts}
 use Rattle.md_match.specs.Pattern.{Ops, Noted, noted, noted_step, placeholders, instantiated, instantiated_step, all_some, operand_numbered}

@@ -77,14 +77,14 @@ stands insns front window back is k i e =
 uses_alike : (f g : Function) (reg : ℕ) (i : Insn) → return_uses f reg ≡ return_uses g reg → uses_in f i reg ≡ true → uses_in g i reg ≡ true
 uses_alike f g reg i same u = subst (λ r. (insn_uses i reg || (is_return i && r)) ≡ true) same u
 
-uses_inner : (f : Function) (reg : ℕ) (i : Insn) → is_return i ≡ false → uses_in f i reg ≡ true → insn_uses i reg ≡ true
+pub uses_inner : (f : Function) (reg : ℕ) (i : Insn) → is_return i ≡ false → uses_in f i reg ≡ true → insn_uses i reg ≡ true
 uses_inner f reg i none u =
     elim (or_cases (insn_uses i reg) (is_return i && return_uses f reg) u) [
       | inl h ↦ h
       | inr h ↦ absurd (false≢true (sym (ap (λ b. b && return_uses f reg) none) ∙ h))
     ]
 
-place_one : (p q : ℕ) → has_place (p ∷ []) q ≡ true → q ≡ p
+pub place_one : (p q : ℕ) → has_place (p ∷ []) q ≡ true → q ≡ p
 place_one p q h =
     elim (or_cases (eqb p q) false h) [
       | inl is ↦ sym (eqb-true p q is)

@@ -1,6 +1,6 @@
 -- Rows that are kept where a window is replaced.
 use Rattle.std.proofs.Common.{◌≡◌, ℕ, ◌+◌, ◌≤◌, length, arith, Bool, true, List, Option, Some, None, Result, Ok, Err, sym, ap, subst, ◌∙◌}
-use Rattle.std.specs.Prelude.{IfSome, IfOk, IsSome}
+use Rattle.std.specs.Prelude.{IfSome, IfOk, IsSome, MatchOption}
 use Rattle.std.proofs.lemmas.Bool.{false≢true}
 use Rattle.std.specs.List.{splice}
 use Rattle.plain_data.specs.declared.memory.Memory.{Memory}
@@ -10,6 +10,7 @@ use Rattle.live.specs.Live.{AreLiveRows}
 use Rattle.live_chain.specs.declared.kept.WindowRows.{WindowRows}
 use Rattle.new_insns.specs.Replaced.{replaced}
 use Rattle.live_chain.specs.Stays.{StaysBefore}
+use Rattle.live_chain.specs.Narrow.{AreNarrow}
 use Rattle.live_chain.specs.Rows.{AreRowsFor}
 
 -- what holds of rows that are found, if rows are
@@ -48,4 +49,22 @@ pub stays_told : (f : Function) (first end : ℕ) (shown new : List Insn) (insid
     (same ≡ true → IsSome inside × IfSome inside (λ inside. inside.from ≡ first)) →
     IfSome inside (AreRowsFor f first end shown) → same ≡ true → StaysBefore f (replaced f first end new) first
 stays_told f first end shown new None same seen is made told = absurd (false≢true (is told).0)
-stays_told f first end shown new (Some rows) same seen is made told = subst (λ insns. StaysBefore f (replaced f first end insns) first) seen (made.stays (is told).1)
+stays_told f first end shown new (Some rows) same seen is made told = subst (λ insns. StaysBefore f (replaced f first end insns) first) seen (subst (λ n. StaysBefore f (replaced f first end shown) n) (is told).1 made.stays)
+
+-- what is live in front of a place stays, where it is the first of rows that are known
+pub stays_up_to : (f : Function) (first end : ℕ) (shown new : List Insn) (inside : Option WindowRows) (from : ℕ) → shown ≡ new →
+    MatchOption inside (from ≡ 0) (λ inside. from ≡ inside.from) → IfSome inside (AreRowsFor f first end shown) → StaysBefore f (replaced f first end new) from
+stays_up_to f first end shown new None from seen is made = λ place reg l. absurd (omega (arith, l, is))
+stays_up_to f first end shown new (Some rows) from seen is made =
+    subst (λ insns. StaysBefore f (replaced f first end insns) from) seen (subst (λ n. StaysBefore f (replaced f first end shown) n) (sym is) made.stays)
+
+-- it is in front of the window
+pub up_to_window : (f : Function) (first end : ℕ) (new : List Insn) (inside : Option WindowRows) (from : ℕ) →
+    MatchOption inside (from ≡ 0) (λ inside. from ≡ inside.from) → IfSome inside (AreRowsFor f first end new) → from ≤ first
+up_to_window f first end new None from is made = omega (arith, is)
+up_to_window f first end new (Some rows) from is made = omega (arith, is, made.order)
+
+-- rows that are known are narrow
+pub narrow_known : (f : Function) (rows : Option (List (List ℕ))) → IfSome rows (AreLiveRows f) → IfSome rows AreNarrow
+narrow_known f None known = tt
+narrow_known f (Some rows) known = known.narrow

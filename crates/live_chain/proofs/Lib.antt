@@ -11,4 +11,5 @@ pub mod KeptLaws
 pub mod LeadLaws
 pub mod NarrowLaws
 pub mod WideLaws
+pub mod TailLaws
 pub mod DemandLaws

@@ -18,7 +18,7 @@ IsAt insns p window = (k : ℕ) (i : Insn) → slice_get window k ≡ Some i →
 pub at_first : (insns : List Insn) (p : ℕ) (i : Insn) (window : List Insn) → IsAt insns p (i ∷ window) → slice_get insns p ≡ Some i
 at_first insns p i window at = subst (λ n. slice_get insns n ≡ Some i) {x = p + 0} {y = p} (omega arith) (at 0 i refl)
 
-at_rest : (insns : List Insn) (p : ℕ) (i : Insn) (window : List Insn) → IsAt insns p (i ∷ window) → IsAt insns (p + 1) window
+pub at_rest : (insns : List Insn) (p : ℕ) (i : Insn) (window : List Insn) → IsAt insns p (i ∷ window) → IsAt insns (p + 1) window
 at_rest insns p i window at k j e = subst (λ n. slice_get insns n ≡ Some j) {x = p + suc k} {y = p + 1 + k} (omega arith) (at (suc k) j e)
 
 pub not_true : (b : Bool) → not b ≡ true → b ≡ false

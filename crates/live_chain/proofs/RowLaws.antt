@@ -1,6 +1,6 @@
 -- The rows of a function with others in the place of a window, where the windows are the same from outside: those outside are as they
 -- were, and those inside follow from what is live behind.
-use Rattle.std.proofs.Common.{◌≡◌, ◌↔◌, ℕ, zero, suc, ◌+◌, ◌-◌, ◌<◌, ◌≤◌, Bool, true, false, ◌||◌, ◌&&◌, not, List, [], ◌∷◌, ◌++◌, length, take, drop, Some, inl, inr, ◌⊎◌, refl, sym, ap, subst, ◌∙◌, arith, length-append, length-drop, eqb}
+use Rattle.std.proofs.Common.{◌≡◌, ◌↔◌, ℕ, zero, suc, ◌+◌, ◌-◌, ◌<◌, ◌≤◌, ◌^◌, Bool, true, false, ◌||◌, ◌&&◌, not, List, [], ◌∷◌, ◌++◌, length, take, drop, Some, inl, inr, ◌⊎◌, refl, sym, ap, subst, ◌∙◌, arith, length-append, length-drop, eqb}
 use Rattle.std.specs.Prelude.{slice_get, slice_range, is_some}
 use Rattle.std.specs.List.{list_any}
 use Rattle.std.proofs.lemmas.Bool.{or_cases, or_left, or_right, and_from, and_parts}
@@ -16,6 +16,8 @@ use Rattle.rtl_func.specs.Successors.{flow_of}
 use Rattle.rtl_func.specs.Paths.{has_place, leads}
 use Rattle.live.specs.Live.{IsLive, IsLiveAfter, AreLiveRows}
 use Rattle.new_insns.specs.Replaced.{window, replaced}
+use Rattle.std.proofs.lemmas.List.Elements.{All-append, All-take, All-drop}
+use Rattle.live_chain.specs.Narrow.{AreNarrow}
 use Rattle.live_chain.specs.Stays.{StaysBefore}
 use Rattle.live_chain.specs.machine.Window.{asks_for, defines_in, sets_in, flow_behind, AreSameOutside, is_live_before, AreRowsOf}
 use Rattle.live_chain.proofs.NumberLaws.{window_parts}
@@ -51,7 +53,7 @@ drop_at [] k l = absurd (omega arith)
 drop_at (x ∷ xs) zero l = (x, xs, refl)
 drop_at (x ∷ xs) (suc k) l = drop_at xs k (omega arith)
 
-get_dropped : {X : Type 0} (xs : List X) (k n : ℕ) → slice_get (drop k xs) n ≡ slice_get xs (k + n)
+pub get_dropped : {X : Type 0} (xs : List X) (k n : ℕ) → slice_get (drop k xs) n ≡ slice_get xs (k + n)
 get_dropped xs zero n = ap (slice_get xs) (omega arith)
 get_dropped [] (suc k) n = refl
 get_dropped (x ∷ xs) (suc k) n = get_dropped xs k n ∙ ap (slice_get (x ∷ xs)) {x = suc (k + n)} {y = suc k + n} (omega arith)
@@ -75,7 +77,7 @@ flow_from (i ∷ j ∷ window) (suc k) l = flow_from (j ∷ window) k (omega ari
 module _ (f : Function) (first end : ℕ) (new : List Insn) (rows within : List (List ℕ)) (live_behind : ℕ → Bool)
     (order : first < end) (fits : end ≤ length f.insns) (exact : AreLiveRows f rows)
     (is_behind : (reg : ℕ) → (live_behind reg ≡ true) ↔ IsLiveAfter f reg (end - 1))
-    (alike : AreSameOutside (window f first end) new live_behind) (rows_of : AreRowsOf new live_behind within) where
+    (alike : AreSameOutside (window f first end) new live_behind) (rows_of : AreRowsOf new live_behind within) (narrow : AreNarrow within) where
   abbrev g : Function
   g = replaced f first end new
 
@@ -280,6 +282,8 @@ module _ (f : Function) (first end : ℕ) (new : List Insn) (rows within : List 
       length-append new back,
       length-drop end f.insns,
     );
+    narrow = All-append (λ row. length row ≤ 2 ^ 26) (take first rows) (within ++ drop end rows) (All-take (λ row. length row ≤ 2 ^ 26) first rows exact.narrow)
+        (All-append (λ row. length row ≤ 2 ^ 26) within (drop end rows) narrow (All-drop (λ row. length row ≤ 2 ^ 26) end rows exact.narrow));
     sound = sound;
     complete = complete;
   }

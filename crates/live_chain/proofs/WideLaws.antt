@@ -4,7 +4,6 @@ use Rattle.std.specs.Prelude.{slice_get, slice_range}
 use Rattle.std.specs.List.{list_any, list_all}
 use Rattle.std.proofs.lemmas.Bool.{or_cases, or_left, or_right, and_from, and_parts, false≢true}
 use lib.Seq.{take-nil}
-use Rattle.std.proofs.lemmas.List.{length-append, length-drop, length-take-le}
 use Rattle.std.proofs.lemmas.List.Folds.{list_any-append}
 use Rattle.std.proofs.lemmas.Option.{same_Some}
 use Rattle.rtx_tree.specs.declared.function.Insn.{Insn}
@@ -16,7 +15,6 @@ use Rattle.live.specs.Live.{IsLiveAfter, AreLiveRows}
 use Rattle.new_insns.specs.Replaced.{window, replaced}
 use Rattle.live_chain.specs.declared.kept.WindowRows.{WindowRows}
 use Rattle.live_chain.specs.Stays.{StaysBefore}
-use Rattle.live_chain.specs.Rows.{AreRowsFor}
 use Rattle.live_chain.specs.machine.Window.{asks_for, defines_in, names_in, flow_behind, is_inner, leads_last, passes, IsAlike, AreLikeEnds, AreSameOutside, AreInside}
 use Rattle.live_chain.proofs.FlowLaws.{falls_by, not_false, both_left, both_right}
 use Rattle.live_chain.proofs.RowLaws.{rows_exact, stays_before}
@@ -70,11 +68,11 @@ module _ (behind : ℕ → Bool) (reg : ℕ) (i : Insn) (old new : List Insn) wh
 
 -- ---- several
 
-alike_behind : (behind : ℕ → Bool) (reg : ℕ) (front old new : List Insn) → IsAlike old new behind reg → IsAlike (front ++ old) (front ++ new) behind reg
+pub alike_behind : (behind : ℕ → Bool) (reg : ℕ) (front old new : List Insn) → IsAlike old new behind reg → IsAlike (front ++ old) (front ++ new) behind reg
 alike_behind behind reg [] old new alike = alike
 alike_behind behind reg (i ∷ front) old new alike = alike_front behind reg i (front ++ old) (front ++ new) (alike_behind behind reg front old new alike)
 
-named_behind : (behind : ℕ → Bool) (reg : ℕ) (front old new : List Insn) → names_in front reg ≡ true → IsAlike (front ++ old) (front ++ new) behind reg
+pub named_behind : (behind : ℕ → Bool) (reg : ℕ) (front old new : List Insn) → names_in front reg ≡ true → IsAlike (front ++ old) (front ++ new) behind reg
 named_behind behind reg [] old new named = absurd (false≢true named)
 named_behind behind reg (i ∷ front) old new named =
     elim (or_cases (insn_uses i reg || insn_defines i reg) (names_in front reg) named) [
@@ -91,13 +89,13 @@ alike_wide behind differing front old new alike named reg = by (has_reg differin
     by true is = named_behind behind reg front old new (named reg is)
     by false is = alike_behind behind reg front old new (alike reg is)
 
-leads_wide : (front w : List Insn) → list_all passes front ≡ true → leads_last w ≡ true → leads_last (front ++ w) ≡ true
+pub leads_wide : (front w : List Insn) → list_all passes front ≡ true → leads_last w ≡ true → leads_last (front ++ w) ≡ true
 leads_wide [] w passing leads = leads
 leads_wide (i ∷ front) w passing leads =
     let both = and_parts (passes i) (list_all passes front) passing in
     passing_leads (λ reg. true) 0 i (front ++ w) [] both.0 (leads_wide front w both.1 leads)
 
-flow_wide : (front w : List Insn) → list_all passes front ≡ true → flow_behind (front ++ w) ≡ flow_behind w
+pub flow_wide : (front w : List Insn) → list_all passes front ≡ true → flow_behind (front ++ w) ≡ flow_behind w
 flow_wide [] w passing = refl
 flow_wide (i ∷ front) w passing =
     let both = and_parts (passes i) (list_all passes front) passing in
@@ -115,13 +113,13 @@ ends_wide front old new passing ends = record {
 
 -- ---- windows of a list
 
-take_sum : {X : Type 0} (m n : ℕ) (xs : List X) → take (m + n) xs ≡ take m xs ++ take n (drop m xs)
+pub take_sum : {X : Type 0} (m n : ℕ) (xs : List X) → take (m + n) xs ≡ take m xs ++ take n (drop m xs)
 take_sum zero n xs = ap (λ k. take k xs) {x = 0 + n} {y = n} (omega arith)
 take_sum (suc m) n [] = take-nil (suc m + n) ∙ sym (take-nil n)
 take_sum (suc m) n (x ∷ xs) = ap (λ k. take k (x ∷ xs)) {x = suc m + n} {y = suc (m + n)} (omega arith) ∙ ap (λ l. x ∷ l) (take_sum m n xs)
 
 -- a window in two parts
-range_parts : {X : Type 0} (xs : List X) (from first end : ℕ) → from ≤ first → first ≤ end → slice_range xs from end ≡ slice_range xs from first ++ slice_range xs first end
+pub range_parts : {X : Type 0} (xs : List X) (from first end : ℕ) → from ≤ first → first ≤ end → slice_range xs from end ≡ slice_range xs from first ++ slice_range xs first end
 range_parts xs from first end l k =
     ap (λ n. take n (drop from xs)) {x = end - from} {y = first - from + (end - first)} (omega (arith, l, k)) ∙
     (take_sum (first - from) (end - first) (drop from xs) ∙
@@ -137,7 +135,7 @@ drop_found (y ∷ xs) zero x is = ap (λ z. z ∷ xs) (same_Some y x is)
 drop_found (y ∷ xs) (suc k) x is = drop_found xs k x is
 
 -- a window with the one in front of it
-range_step : {X : Type 0} (xs : List X) (from first : ℕ) (x : X) → 0 < from → from ≤ first → slice_get xs (from - 1) ≡ Some x → slice_range xs (from - 1) first ≡ x ∷ slice_range xs from first
+pub range_step : {X : Type 0} (xs : List X) (from first : ℕ) (x : X) → 0 < from → from ≤ first → slice_get xs (from - 1) ≡ Some x → slice_range xs (from - 1) first ≡ x ∷ slice_range xs from first
 range_step xs from first x l k is =
     ap (λ n. take n (drop (from - 1) xs)) {x = first - (from - 1)} {y = suc (first - from)} (omega (arith, l, k)) ∙
     ap (λ ys. take (suc (first - from)) ys) (drop_found xs (from - 1) x is ∙ ap (λ n. x ∷ drop n xs) {x = suc (from - 1)} {y = from} (omega (arith, l)))
@@ -182,28 +180,11 @@ module _ (f : Function) (first end : ℕ) (old new : List Insn) (rows : List (Li
   outside = subst (λ w. AreSameOutside w (front ++ new) live_behind) (sym whole) (record { ends = ends_wide front old new are.passing ends; demands = are.demands })
 
   -- the rows of the function with the new window, by those of the new window and of what stands in front of it
-  wide_rows : AreLiveRows (replaced f first end new) (take inside.from rows ++ (inside.rows ++ drop end rows))
+  pub wide_rows : AreLiveRows (replaced f first end new) (take inside.from rows ++ (inside.rows ++ drop end rows))
   wide_rows = subst (λ g. AreLiveRows g (take inside.from rows ++ (inside.rows ++ drop end rows))) (wide_replaced f inside.from first end new are.order)
-      (rows_exact f inside.from end (front ++ new) rows inside.rows live_behind (omega (arith, order, are.order)) fits exact is_behind outside are.rows)
+      (rows_exact f inside.from end (front ++ new) rows inside.rows live_behind (omega (arith, order, are.order)) fits exact is_behind outside are.rows are.narrow)
 
-  wide_stays : inside.from ≡ first → StaysBefore f (replaced f first end new) first
-  wide_stays here = subst (λ n. StaysBefore f (replaced f first end new) n) here (subst (λ g. StaysBefore f g inside.from) (wide_replaced f inside.from first end new are.order)
-      (stays_before f inside.from end (front ++ new) rows inside.rows live_behind (omega (arith, order, are.order)) fits exact is_behind outside are.rows))
-
-  wide_long : inside.from + length inside.rows ≡ first + length new
-  wide_long =
-      let rest = length-drop inside.from f.insns in
-      let before = length-take-le (first - inside.from) (drop inside.from f.insns) (omega (arith, rest, order, fits)) in
-      let both = length-append front new in
-      omega (arith, are.rows.long, before, both, are.order)
-
--- rows of what stands in front of the new window and of it are rows for the window
-pub wide_made : (f : Function) (first end : ℕ) (old new : List Insn) (rows : List (List ℕ)) (live_behind : ℕ → Bool) (inside : WindowRows) → first < end → end ≤ length f.insns →
-    AreLiveRows f rows → ((reg : ℕ) → (live_behind reg ≡ true) ↔ IsLiveAfter f reg (end - 1)) →
-    old ≡ window f first end → AreLikeEnds old new → AreInside f.insns first old new live_behind inside → AreRowsFor f first end new inside
-wide_made f first end old new rows live_behind inside order fits exact is_behind is ends are = record {
-  order = are.order;
-  long = wide_long f first end old new rows live_behind inside order fits exact is_behind is ends are;
-  rows = λ others too. wide_rows f first end old new others live_behind inside order fits too is_behind is ends are;
-  stays = wide_stays f first end old new rows live_behind inside order fits exact is_behind is ends are;
-}
+  -- what is live in front of the first of them stays
+  pub wide_stays : StaysBefore f (replaced f first end new) inside.from
+  wide_stays = subst (λ g. StaysBefore f g inside.from) (wide_replaced f inside.from first end new are.order)
+      (stays_before f inside.from end (front ++ new) rows inside.rows live_behind (omega (arith, order, are.order)) fits exact is_behind outside are.rows are.narrow)

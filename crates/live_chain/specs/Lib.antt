@@ -1,3 +1,4 @@
 pub mod Stays
+pub mod Narrow
 pub mod machine
 pub mod Rows

@@ -9,12 +9,12 @@ use Rattle.new_insns.specs.Replaced.{replaced}
 use Rattle.live_chain.specs.Stays.{StaysBefore}
 
 -- put in the place of those from their first place up to the window's end, they make of the rows of
--- a function those of the function with new instructions in the window's place; where they begin
--- with the window, what is live in front of it stays
+-- a function those of the function with new instructions in the window's place; what is live in
+-- front of their first place stays
 pub record AreRowsFor (f : Function) (first end : ℕ) (new : List Insn) (inside : WindowRows) :
     Type 0 where
   pub order : inside.from ≤ first
   pub long : inside.from + length inside.rows ≡ first + length new
   pub rows : (rows : List (List ℕ)) → AreLiveRows f rows →
       AreLiveRows (replaced f first end new) (splice rows inside.from end inside.rows)
-  pub stays : inside.from ≡ first → StaysBefore f (replaced f first end new) first
+  pub stays : StaysBefore f (replaced f first end new) inside.from

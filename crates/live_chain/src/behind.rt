@@ -1,57 +1,25 @@
 //! The row of what is live after a place.
-ghost use Rattle.std.specs.Prelude.{◌≡◌, ℕ, ◌<◌, ◌^◌, ◌==◌, ◌||◌, ◌&&◌, ◌↔◌};
+ghost use Rattle.std.specs.Prelude.{◌≡◌, ℕ, ◌<◌, ◌≤◌, ◌^◌, ◌||◌, ◌↔◌};
 ghost use Rattle.std.specs.Prelude.{true, IfOk, OnOk, length};
 ghost use Rattle.reg_rows.specs.Row.{has};
 ghost use Rattle.rtx_tree.specs.declared.function.Function.{Function};
 ghost use Rattle.live_rows.specs.machine.Rows.{at_place};
 ghost use Rattle.live.specs.Live.{AreLiveRows, IsLive, IsLiveAfter};
+ghost use Rattle.live_chain.specs.Narrow.{AreNarrow};
 
 use crate::leads::successors;
+use crate::room::add_row;
 use gap_list::GapList;
 use plain_data::Memory;
 use reg_rows::RegRow;
 use rtx_tree::Insn;
 use std::alloc::Global;
 
-const WORD: usize = u64::BITS as usize;
-// so many words have a bit for each `u32`
-const MOST_WORDS: usize = 1 << 26;
-
-/// Adds register `reg` if the row has it.
-fn add_register(row: &RegRow, reg: u32, to: &mut RegRow) -> Result<(), Memory>
-    ensures { OnOk result ((other : ℕ) →
-        has to.new other ≡ (has to.old other || (other == reg && has row.now other))) }
-{
-    if row.contains(reg) {
-        to.make_room(reg)?;
-        to.insert(reg);
-    }
-    Ok(())
-}
-
-/// Adds the registers of a row. A row past `u32` finds no memory.
-fn add_row(row: &RegRow, to: &mut RegRow) -> Result<(), Memory>
-    ensures { OnOk result ((reg : ℕ) → has to.new reg ≡ (has to.old reg || has row.now reg)) }
-{
-    if row.width() > MOST_WORDS {
-        return Err(Memory);
-    }
-    let end = row.width() * WORD;
-    let mut reg = 0;
-    while reg < end {
-        if row.is_passed(reg) {
-            reg += WORD;
-            continue;
-        }
-        add_register(row, reg as u32, to)?;
-        reg += 1;
-    }
-    Ok(())
-}
-
 /// The row of a place, if it is one, and else no register.
 fn copy_at(alloc: Global, rows: &GapList<RegRow>, place: Option<u32>) -> Result<RegRow, Memory>
-    ensures { IfOk result (λ row. (reg : ℕ) → has row reg ≡ at_place place rows.now reg) }
+    requires { AreNarrow rows.now }
+    ensures row { IfOk result (λ row. (reg : ℕ) → has row reg ≡ at_place place rows.now reg) }
+    ensures narrow { IfOk result (λ row. length row ≤ 2 ^ 26) }
 {
     let Some(place) = place else {
         return Ok(RegRow::empty(alloc));
@@ -64,15 +32,23 @@ fn copy_at(alloc: Global, rows: &GapList<RegRow>, place: Option<u32>) -> Result<
 }
 
 /// Adds the row of a place, if it is one.
-fn add_at(rows: &GapList<RegRow>, place: Option<u32>, to: &mut RegRow) -> Result<(), Memory>
-    ensures { OnOk result ((reg : ℕ) →
+fn add_at(
+    alloc: Global,
+    rows: &GapList<RegRow>,
+    place: Option<u32>,
+    to: &mut RegRow,
+) -> Result<(), Memory>
+    requires rows { AreNarrow rows.now }
+    requires to { length to.old ≤ 2 ^ 26 }
+    ensures each { OnOk result ((reg : ℕ) →
         has to.new reg ≡ (has to.old reg || at_place place rows.now reg)) }
+    ensures narrow { length to.new ≤ 2 ^ 26 }
 {
     let Some(place) = place else {
         return Ok(());
     };
     if (place as usize) < rows.len() {
-        add_row(rows.item(place as usize), to)
+        add_row(alloc, rows.item(place as usize), to)
     } else {
         Ok(())
     }
@@ -127,12 +103,14 @@ pub fn row_after(
     rows: &GapList<RegRow>,
     place: u32,
 ) -> Result<RegRow, Memory>
-    requires { length insns.now < 2 ^ 32 }
-    ensures { (f : Function) → f.insns ≡ insns.now → AreLiveRows f rows.now →
+    requires short { length insns.now < 2 ^ 32 }
+    requires narrow { AreNarrow rows.now }
+    ensures live { (f : Function) → f.insns ≡ insns.now → AreLiveRows f rows.now →
         IfOk result (λ row. (reg : ℕ) → (has row reg ≡ true) ↔ IsLiveAfter f reg place) }
+    ensures narrow { IfOk result (λ row. length row ≤ 2 ^ 26) }
 {
     let next = successors(insns, place);
     let mut row = copy_at(alloc, rows, next.first)?;
-    add_at(rows, next.second, &mut row)?;
+    add_at(alloc, rows, next.second, &mut row)?;
     Ok(row)
 }

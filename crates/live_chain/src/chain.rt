@@ -10,7 +10,9 @@ ghost use Rattle.rtl_chain.specs.Counts as counts;
 ghost use Rattle.live_chain.specs.machine.Whole.{with_chain};
 
 use crate::behind::{is_after, is_before};
-use crate::kept::{WindowRows, is_same_before, move_rows, rows_inside, rows_joined, rows_put};
+use crate::kept::{
+    WindowRows, is_same_before, move_rows, rows_inside, rows_joined, rows_put, same_to,
+};
 use crate::narrow::live_behind;
 use crate::numbers::{
     count_after, count_around, count_beside, count_of, count_put, pseudo_after, pseudo_of,
@@ -123,8 +125,7 @@ impl LiveChain {
         Ok(frame)
     }
 
-    /// The registers that are live after a place. A chain of 2^32 places or more finds no memory,
-    /// and neither do registers whose numbers have more than 32 bits.
+    /// The registers that are live after a place. A chain of 2^32 places or more finds no memory.
     ///
     /// # Errors
     ///
@@ -297,8 +298,8 @@ impl LiveChain {
     }
 
     /// Puts new instructions in the place of a window, that from place `first` up to place `end`.
-    /// Says whether after each place in front of it the same registers are seen to be live as
-    /// before. After `Memory` the function is as before.
+    /// Gives a place so that after each place in front of it the same registers are seen to be live
+    /// as before. After `Memory` the function is as before.
     ///
     /// # Errors
     ///
@@ -309,11 +310,12 @@ impl LiveChain {
         first: u32,
         end: u32,
         new: Insns,
-    ) -> Result<bool, Memory>
+    ) -> Result<u32, Memory>
         requires order { first ≤ end }
         requires within { end ≤ length self.old.insns }
         ensures replaced { OnOk result (self.new ≡ replaced self.old first end new) }
-        ensures stays { IfOk result (λ same. same ≡ true → StaysBefore self.old self.new first) }
+        ensures stays { IfOk result (StaysBefore self.old self.new) }
+        ensures before { IfOk result (λ from. from ≤ first) }
         ensures kept { OnErr result (self.new ≡ self.old) }
     {
         self.insns.move_gap(end as usize)?;
@@ -341,13 +343,13 @@ impl LiveChain {
             old,
             new.as_slice(),
         )?;
-        let same = is_same_before(first, &inside);
+        let from = same_to(&inside);
         self.insns.splice(first as usize, end as usize, new)?;
         self.rows = rows_joined(self.rows.take(), end, inside);
         self.greatest = greatest;
         self.next = next;
         self.count = count;
-        Ok(same)
+        Ok(from)
     }
 
     /// The rows for new instructions in the place of a window, that from place `first` up to place

@@ -1,15 +1,17 @@
 //! Rows that are kept where a window is replaced.
-ghost use Rattle.std.specs.Prelude.{◌≡◌, ◌+◌, ◌≤◌, true, length, slice_range, IfOk, IfSome, IsSome};
+ghost use Rattle.std.specs.Prelude.{◌≡◌, ◌+◌, ◌^◌, ◌<◌, ◌≤◌, true, length, slice_range, IfOk, IfSome, IsSome, MatchOption};
 ghost use Rattle.std.specs.List.{splice};
 ghost use Rattle.rtx_tree.specs.declared.function.Function.{Function};
 ghost use Rattle.reg_rows.specs.Row.{has};
 ghost use Rattle.live.specs.Live.{AreLiveRows};
+ghost use Rattle.live_chain.specs.Narrow.{AreNarrow};
 ghost use Rattle.live_chain.specs.Rows.{AreRowsFor};
-ghost use Rattle.live_chain.specs.machine.Window.{AreLikeEnds, AreInside};
+ghost use Rattle.live_chain.specs.machine.Window.{AreLikeEnds, AreFound};
 
 use crate::behind::row_after;
 use crate::demand::differing_between;
 use crate::sets::same_sets;
+use crate::settled::{tail_end, unsettled};
 use crate::wide::block_to;
 use crate::window::{leads_last, same_flow};
 use crate::within::rows_within;
@@ -39,15 +41,21 @@ fn rows_from(
     alloc: Global,
     insns: &GapList<Insn>,
     first: u32,
+    end: u32,
     old: &[Insn],
     new: &[Insn],
     behind: &RegRow,
 ) -> Result<Option<WindowRows>, Memory>
-    requires within { first ≤ length insns.now }
-    ensures { IfOk result (λ inside. IfSome inside (AreInside insns.now first old.now new.now (has behind.now))) }
+    requires order { first ≤ end }
+    requires within { end ≤ length insns.now }
+    requires short { length insns.now < 2 ^ 32 }
+    requires narrow { length behind.now ≤ 2 ^ 26 }
+    ensures { IfOk result (λ inside. IfSome inside (AreFound insns.now first end old.now new.now (has behind.now))) }
 {
     let differing = differing_between(alloc, old, new, behind)?;
-    let Some(from) = block_to(alloc, insns, first, differing)? else {
+    let to = tail_end(insns, end, old, new);
+    let left = unsettled(alloc, insns, end, to, old, new, differing.as_slice())?;
+    let Some(from) = block_to(alloc, insns, first, left)? else {
         return Ok(None);
     };
     let Some(front) = insns.between(from as usize, first as usize) else {
@@ -71,6 +79,7 @@ fn rows_for(
     requires order { first ≤ end }
     requires within { end ≤ length insns.now }
     requires old { old.now ≡ slice_range insns.now first end }
+    requires narrow { AreNarrow rows.now }
     ensures made { (f : Function) → f.insns ≡ insns.now → AreLiveRows f rows.now →
         IfOk result (λ inside. IfSome inside (AreRowsFor f first end new.now)) }
     ensures order { IfOk result (λ inside. IfSome inside (λ inside. inside.from ≤ first)) }
@@ -79,7 +88,7 @@ fn rows_for(
         return Ok(None);
     }
     let behind = row_after(alloc, insns, rows, end - 1)?;
-    rows_from(alloc, insns, first, old, new, &behind)
+    rows_from(alloc, insns, first, end, old, new, &behind)
 }
 
 /// The rows of instructions in the place of a window, if the function's rows are known.
@@ -95,6 +104,7 @@ pub fn rows_inside(
     requires order { first ≤ end }
     requires within { end ≤ length insns.now }
     requires old { old.now ≡ slice_range insns.now first end }
+    requires narrow { IfSome rows.now AreNarrow }
     ensures made { (f : Function) → f.insns ≡ insns.now → IfSome rows.now (AreLiveRows f) →
         IfOk result (λ inside. IfSome inside (AreRowsFor f first end new.now)) }
     ensures order { IfOk result (λ inside. IfSome inside (λ inside. inside.from ≤ first)) }
@@ -102,6 +112,16 @@ pub fn rows_inside(
     match rows {
         Some(rows) => rows_for(alloc, insns, rows, first, end, old, new),
         None => Ok(None),
+    }
+}
+
+/// The place in front of which what is live is seen to stay.
+pub fn same_to(inside: &Option<WindowRows>) -> u32
+    ensures { MatchOption inside.now (result ≡ 0) (λ inside. result ≡ inside.from) }
+{
+    match inside {
+        Some(inside) => inside.from,
+        None => 0,
     }
 }
 

@@ -9,9 +9,10 @@
 //! kept if the old and the new window are the same from outside (`specs/machine/Window.antt`): they
 //! ask for the same registers, define the same of the others that are live behind, and lead to the
 //! same places. Then what is live within follows from what is live behind. Where they differ in some
-//! registers, both windows are seen with what stands in front of them in the block, up to where each
-//! of these registers is used or defined: wider windows that are the same from outside. Else what is
-//! live is forgotten, and computed anew at the next question.
+//! registers, both windows are seen with what stands around them in the block: behind them so far as
+//! it asks for some of these registers, which are live there whichever window stands, and in front of
+//! them up to where each of the others is used or defined. These are wider windows that are the same
+//! from outside. Else what is live is forgotten, and computed anew at the next question.
 #![tactic(auto)]
 
 mod behind;
@@ -21,7 +22,9 @@ mod kept;
 mod leads;
 mod narrow;
 mod numbers;
+mod room;
 mod sets;
+mod settled;
 mod wide;
 mod window;
 mod within;

@@ -3,6 +3,7 @@ ghost use Rattle.std.specs.Prelude.{◌≡◌, ◌<◌, ◌^◌, ℕ, true, IfOk
 ghost use Rattle.rtx_tree.specs.declared.function.Function.{Function};
 ghost use Rattle.rtx_tree.specs.RegSet.{has_reg};
 ghost use Rattle.live.specs.Live.{AreLiveAfter, AreLiveRows};
+ghost use Rattle.live_chain.specs.Narrow.{AreNarrow};
 
 use crate::behind::row_after;
 use gap_list::GapList;
@@ -11,17 +12,15 @@ use reg_rows::RegRow;
 use rtx_tree::{Insn, RegSet};
 use std::alloc::Global;
 
-/// How many words a row has at most whose registers have numbers of 32 bits.
-const MOST_WORDS: usize = 1 << 26;
-
 /// The registers that are live after a place, by the rows of what is live. A chain of 2^32 places
-/// or more finds no memory, and neither do registers whose numbers have more than 32 bits.
+/// or more finds no memory.
 pub(crate) fn live_behind(
     alloc: Global,
     insns: &GapList<Insn>,
     rows: &GapList<RegRow>,
     place: u32,
 ) -> Result<RegSet, Memory>
+    requires { AreNarrow rows.now }
     ensures live { (f : Function) → f.insns ≡ insns.now → AreLiveRows f rows.now →
         IfOk result (AreLiveAfter f place) }
     ensures small { IfOk result (λ live. (reg : ℕ) → has_reg live reg ≡ true → reg < 2 ^ 32) }
@@ -30,9 +29,6 @@ pub(crate) fn live_behind(
         return Err(Memory);
     }
     let row = row_after(alloc, insns, rows, place)?;
-    if row.width() > MOST_WORDS {
-        return Err(Memory);
-    }
     let live = RegSet::of_row(alloc, &row)?;
     // asked for what it tells of the order of the set
     let _first = live.contains(0);

@@ -26,7 +26,7 @@ pub fn passes(insn: &Insn) -> bool
 }
 
 /// Whether each of some instructions does.
-fn all_pass(insns: &[Insn]) -> bool
+pub fn all_pass(insns: &[Insn]) -> bool
     ensures { result ≡ list_all spec.passes insns.now }
 {
     insns.iter().all(passes)

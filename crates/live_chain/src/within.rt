@@ -1,11 +1,13 @@
 //! The rows of a window's instructions, by what is live behind it.
-ghost use Rattle.std.specs.Prelude.{◌≡◌, ℕ, ◌||◌, ◌&&◌, not, List, ◌++◌, IfOk, OnOk};
+ghost use Rattle.std.specs.Prelude.{◌≡◌, ◌≤◌, ◌^◌, ℕ, ◌||◌, ◌&&◌, not, List, ◌++◌, length, IfOk, OnOk};
 ghost use Rattle.rtx_tree.specs.RegSet.{has_reg};
 ghost use Rattle.rtx_tree.specs.declared.function.Insn.{Insn};
 ghost use Rattle.reg_rows.specs.Row.{has};
 ghost use Rattle.reg_uses.specs.Uses as insns;
+ghost use Rattle.live_chain.specs.Narrow.{AreNarrow};
 ghost use Rattle.live_chain.specs.machine.Window.{AreRowsOf, first_has};
 
+use crate::room::put_in;
 use plain_data::{Items, Memory};
 use reg_rows::RegRow;
 use reg_uses::{insn_defines, insn_uses};
@@ -13,33 +15,25 @@ use rtx_tree::Insn;
 use std::alloc::Global;
 
 fn take_out(row: &mut RegRow, regs: &[u32])
-    ensures { (reg : ℕ) → has row.new reg ≡ (has row.old reg && not (has_reg regs.now reg)) }
+    ensures each { (reg : ℕ) → has row.new reg ≡ (has row.old reg && not (has_reg regs.now reg)) }
+    ensures width { length row.new ≡ length row.old }
 {
     for reg in regs {
         row.remove(*reg);
     }
 }
 
-fn put_in(row: &mut RegRow, regs: &[u32]) -> Result<(), Memory>
-    ensures { OnOk result ((reg : ℕ) →
-        has row.new reg ≡ (has row.old reg || has_reg regs.now reg)) }
-{
-    for reg in regs {
-        row.make_room(*reg)?;
-        row.insert(*reg);
-    }
-    Ok(())
-}
-
 /// The registers that are live before an instruction, by those after it.
 fn row_before(alloc: Global, insn: &Insn, after: &RegRow) -> Result<RegRow, Memory>
-    ensures { IfOk result (λ row. (reg : ℕ) → has row reg ≡
+    requires { length after.now ≤ 2 ^ 26 }
+    ensures row { IfOk result (λ row. (reg : ℕ) → has row reg ≡
         (insns.insn_uses insn.now reg ||
         (not (insns.insn_defines insn.now reg) && has after.now reg))) }
+    ensures narrow { IfOk result (λ row. length row ≤ 2 ^ 26) }
 {
     let mut row = after.copy(alloc)?;
     take_out(&mut row, insn_defines(alloc, insn)?.as_slice());
-    put_in(&mut row, insn_uses(alloc, insn)?.as_slice())?;
+    put_in(alloc, &mut row, insn_uses(alloc, insn)?.as_slice())?;
     Ok(row)
 }
 
@@ -51,9 +45,12 @@ fn row_in_front(
     rows: &[RegRow],
     behind: &RegRow,
 ) -> Result<RegRow, Memory>
-    ensures { IfOk result (λ row. (reg : ℕ) → has row reg ≡
+    requires rows { AreNarrow rows.now }
+    requires behind { length behind.now ≤ 2 ^ 26 }
+    ensures row { IfOk result (λ row. (reg : ℕ) → has row reg ≡
         (insns.insn_uses insn.now reg ||
         (not (insns.insn_defines insn.now reg) && first_has rows.now behind.now reg))) }
+    ensures narrow { IfOk result (λ row. length row ≤ 2 ^ 26) }
 {
     match rows {
         [] => row_before(alloc, insn, behind),
@@ -68,8 +65,11 @@ pub fn add_rows(
     behind: &RegRow,
     rows: &mut Items<RegRow>,
 ) -> Result<(), Memory>
-    ensures { OnOk result ((after : List Insn) → AreRowsOf after (has behind.now) rows.old →
+    requires behind { length behind.now ≤ 2 ^ 26 }
+    requires rows { AreNarrow rows.old }
+    ensures rows { OnOk result ((after : List Insn) → AreRowsOf after (has behind.now) rows.old →
         AreRowsOf (window.now ++ after) (has behind.now) rows.new) }
+    ensures narrow { OnOk result (AreNarrow rows.new) }
 {
     let mut at = window.len();
     while at > 0 {
@@ -87,7 +87,9 @@ pub fn rows_within(
     window: &[Insn],
     behind: &RegRow,
 ) -> Result<Items<RegRow>, Memory>
-    ensures { IfOk result (AreRowsOf (front.now ++ window.now) (has behind.now)) }
+    requires { length behind.now ≤ 2 ^ 26 }
+    ensures rows { IfOk result (AreRowsOf (front.now ++ window.now) (has behind.now)) }
+    ensures narrow { IfOk result AreNarrow }
 {
     let mut rows = Items::new(alloc);
     add_rows(alloc, window, behind, &mut rows)?;

@@ -1,6 +1,6 @@
 -- A window of a chain as it is seen from outside: GCC Internals, "Liveness information", "Insns"
 -- and "Jump Patterns".
-use Rattle.std.specs.Prelude.{◌≡◌, ℕ, ◌<◌, ◌≤◌, Bool, true, false, ◌||◌, ◌&&◌, not, List, [], ◌∷◌, ◌++◌, length, drop, slice_range}
+use Rattle.std.specs.Prelude.{◌≡◌, ℕ, ◌<◌, ◌≤◌, ◌⊎◌, Bool, true, false, ◌||◌, ◌&&◌, not, List, [], ◌∷◌, ◌++◌, length, drop, slice_range}
 use Rattle.std.specs.List.{list_any, list_all}
 use Rattle.reg_rows.specs.Row.{has}
 use Rattle.reg_rows.specs.Table.{has_at}
@@ -9,6 +9,7 @@ use Rattle.rtx_tree.specs.Patterns.{is_label_kind}
 use Rattle.rtx_tree.specs.RegSet.{has_reg}
 use Rattle.rv_regs.specs.Registers.{kept_registers}
 use Rattle.live_chain.specs.declared.kept.WindowRows.{WindowRows}
+use Rattle.live_chain.specs.Narrow.{AreNarrow}
 use Rattle.reg_uses.specs.Uses.{insn_uses, insn_defines, insn_sets, is_return}
 use Rattle.rtl_func.specs.declared.flow.Flow.{Flow}
 use Rattle.rtl_func.specs.declared.flow.Flow.TheVariants.{Falls}
@@ -95,6 +96,17 @@ pub record IsBlockTo (insns : List Insn) (from first : ℕ) (regs : List ℕ) : 
   pub passing : list_all passes (slice_range insns from first) ≡ true
   pub named : (reg : ℕ) → has_reg regs reg ≡ true → names_in (slice_range insns from first) reg ≡ true
 
+-- what stands behind two windows: it leads on from each of its instructions to the next alone, and so
+-- do both windows, or nothing is seen there
+pub record IsTailOf (old new tail : List Insn) : Type 0 where
+  pub passing : list_all passes tail ≡ true
+  pub led : (tail ≡ []) ⊎ ((list_all passes old ≡ true) × (list_all passes new ≡ true))
+
+-- two windows leave a register alone, and what stands behind them asks for it
+abbrev pub is_settled : List Insn → List Insn → List Insn → ℕ → Bool
+is_settled old new tail reg =
+    not (defines_in old reg) && (not (defines_in new reg) && asks_for tail reg)
+
 -- rows of a new window, and of what stands in front of it from where on the old one and it, both with
 -- what stands there, are the same from outside
 pub record AreInside (insns : List Insn) (first : ℕ) (old new : List Insn) (behind : ℕ → Bool) (inside : WindowRows) : Type 0 where
@@ -102,3 +114,17 @@ pub record AreInside (insns : List Insn) (first : ℕ) (old new : List Insn) (be
   pub passing : list_all passes (slice_range insns inside.from first) ≡ true
   pub demands : (reg : ℕ) → IsAlike (slice_range insns inside.from first ++ old) (slice_range insns inside.from first ++ new) behind reg
   pub rows : AreRowsOf (slice_range insns inside.from first ++ new) behind inside.rows
+  pub narrow : AreNarrow inside.rows
+
+-- rows of a new window, and of what stands in front of it from where on each register in which the
+-- old one and it are not alike is used or defined there, or settled by what stands behind
+pub record AreFound (insns : List Insn) (first end : ℕ) (old new : List Insn) (behind : ℕ → Bool) (inside : WindowRows) : Type 0 where
+  pub order : inside.from ≤ first
+  pub passing : list_all passes (slice_range insns inside.from first) ≡ true
+  pub to : ℕ
+  pub beyond : end ≤ to
+  pub fits : to ≤ length insns
+  pub tail : IsTailOf old new (slice_range insns end to)
+  pub demands : (reg : ℕ) → IsAlike old new behind reg ⊎ ((is_settled old new (slice_range insns end to) reg ≡ true) ⊎ (names_in (slice_range insns inside.from first) reg ≡ true))
+  pub rows : AreRowsOf (slice_range insns inside.from first ++ new) behind inside.rows
+  pub narrow : AreNarrow inside.rows

@@ -4,7 +4,7 @@ use Rattle.rtl_chain.specs.Counts.{next_pseudo_in, is_instruction}
 use Rattle.live_chain.specs.machine.Whole.{with_chain}
 use Rattle.live_chain.proofs.NumberLaws.{known_after}
 use Rattle.live_chain.proofs.CountLaws.{count_known}
-use Rattle.live_chain.proofs.KeptLaws.{live_joined, rows_told, stays_told}
+use Rattle.live_chain.proofs.KeptLaws.{live_joined, rows_told, stays_up_to, up_to_window}
 use Rattle.live_chain.specs.Stays.{StaysBefore}
 use Rattle.live_chain.proofs.chain.LiveChain.replace.Goals as goal
 
@@ -41,14 +41,23 @@ invariant_of-self-2 c =
     }
 
 pub returns-clause-stays : goal.returns-clause-stays
-returns-clause-stays c = λ told.
+returns-clause-stays c =
     let a = c.args in
     let was = c.self.inside in
     let f = with_chain was.frame was.insns in
     let same : c.splice.new.self ≡ splice was.insns a.first a.end a.new =
     c.in_ok-splice.ensures.ok ∙ ap (λ l. splice l a.first a.end a.new) c.move_gap.ensures in
     let all = c.splice.new.self in
-    subst (λ g. StaysBefore g (with_chain was.frame all) a.first) c.self.view_is
-    (subst (λ g. StaysBefore f g a.first) (sym (ap (with_chain was.frame) same))
-    (stays_told f a.first a.end c.as_slice-4.result.now a.new c.in_ok-inside.inside c.is_same_before-same.result c.as_slice-4.ensures.value
-    c.is_same_before-same.ensures (c.in_ok-inside.ensures.made f (sym c.move_gap.ensures) c.self.invariant.live) told))
+    let from = c.same_to-from.result in
+    subst (λ g. StaysBefore g (with_chain was.frame all) from) c.self.view_is
+    (subst (λ g. StaysBefore f g from) (sym (ap (with_chain was.frame) same))
+    (stays_up_to f a.first a.end c.as_slice-4.result.now a.new c.in_ok-inside.inside from c.as_slice-4.ensures.value
+    c.same_to-from.ensures (c.in_ok-inside.ensures.made f (sym c.move_gap.ensures) c.self.invariant.live)))
+
+pub returns-clause-before : goal.returns-clause-before
+returns-clause-before c =
+    let a = c.args in
+    let was = c.self.inside in
+    let f = with_chain was.frame was.insns in
+    up_to_window f a.first a.end c.as_slice-4.result.now c.in_ok-inside.inside c.same_to-from.result c.same_to-from.ensures
+    (c.in_ok-inside.ensures.made f (sym c.move_gap.ensures) c.self.invariant.live)

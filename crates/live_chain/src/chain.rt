@@ -358,6 +358,7 @@ impl LiveChain {
             new.as_slice(),
         )?;
         let from = same_to(&inside);
+        drop(window);
         self.insns.splice(first as usize, end as usize, new)?;
         self.rows = rows_joined(self.rows.take(), end, inside);
         self.greatest = greatest;

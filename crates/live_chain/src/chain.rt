@@ -300,12 +300,7 @@ impl LiveChain {
     /// # Errors
     ///
     /// `Memory` where memory ran out.
-    pub fn window(
-        &self,
-        alloc: Global,
-        first: u32,
-        end: u32,
-    ) -> Result<CowSlice<'_, Insn>, Memory>
+    pub fn window(&self, alloc: Global, first: u32, end: u32) -> Result<CowSlice<'_, Insn>, Memory>
         requires order { first ≤ end }
         requires within { end ≤ length self.now.insns }
         ensures { IfOk result (λ insns. cow_slice_items insns ≡ window self.now first end) }

@@ -9,12 +9,7 @@ use std::alloc::Global;
 use std::borrow::CowSlice;
 
 /// Copies of the instructions between two places, in order.
-fn copied(
-    alloc: Global,
-    insns: &GapList<Insn>,
-    first: usize,
-    end: usize,
-) -> Result<Insns, Memory>
+fn copied(alloc: Global, insns: &GapList<Insn>, first: usize, end: usize) -> Result<Insns, Memory>
     requires order { first ≤ end }
     requires within { end ≤ length insns.now }
     ensures { IfOk result (λ copies. copies ≡ slice_range insns.now first end) }

@@ -92,10 +92,8 @@ pub fn put_between(
     ensures same { chain.new ≡ chain.old }
 {
     let live = chain.live_after(alloc, end - 1)?;
+    // with the gap at its end the window is lent
     chain.move_gap(end)?;
-    // with the gap at its end the window stands in one piece
-    let Some(window) = chain.window(first, end) else {
-        return Err(Memory);
-    };
-    compared(alloc, window, x, &live)
+    let window = chain.window(alloc, first, end)?;
+    compared(alloc, window.as_slice(), x, &live)
 }

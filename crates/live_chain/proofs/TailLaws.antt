@@ -437,6 +437,10 @@ one_range xs p x at =
 pub none_ranged : {X : Type 0} (xs : List X) (p : ℕ) → slice_range xs p p ≡ []
 none_ranged xs p = ap (λ n. take n (drop p xs)) {x = p - p} {y = 0} (omega arith)
 
+-- what stands between two places, and one more
+pub range_more : {X : Type 0} (xs : List X) (first at : ℕ) (x : X) → first ≤ at → slice_get xs at ≡ Some x → slice_range xs first (at + 1) ≡ slice_range xs first at ++ x ∷ []
+range_more xs first at x l is = range_parts xs first at (at + 1) l (omega arith) ∙ ap (λ w. slice_range xs first at ++ w) (one_range xs at x is)
+
 pub passing_more : (insns : List Insn) (end to : ℕ) (i : Insn) → end ≤ to → slice_get insns to ≡ Some i → passes i ≡ true →
     list_all passes (slice_range insns end to) ≡ true → list_all passes (slice_range insns end (to + 1)) ≡ true
 passing_more insns end to i l at passing all =

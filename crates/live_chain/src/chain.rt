@@ -1,6 +1,7 @@
 //! A function with what is known of it.
 ghost use Rattle.std.specs.Prelude.{◌≡◌, ◌↔◌, ◌+◌, ◌≤◌, ◌<◌, ◌^◌, ℕ, true, Some, length, slice_get};
 ghost use Rattle.std.specs.Prelude.{IfOk, IfSome, OnOk, OnErr};
+ghost use Rattle.std.specs.Cow.{cow_slice_items};
 ghost use Rattle.rtx_tree.specs.RegSet.{has_reg};
 ghost use Rattle.live.specs.Live.{AreLiveAfter, AreLiveRows, IsLive, IsLiveAfter};
 ghost use Rattle.new_insns.specs.Replaced.{replaced, window};
@@ -13,6 +14,7 @@ use crate::behind::{is_after, is_before};
 use crate::kept::{
     WindowRows, is_same_before, move_rows, rows_inside, rows_joined, rows_put, same_to,
 };
+use crate::lent::window_of;
 use crate::narrow::live_behind;
 use crate::numbers::{
     count_after, count_around, count_beside, count_of, count_put, pseudo_after, pseudo_of,
@@ -25,6 +27,7 @@ use reg_rows::RegRow;
 use rtl_chain::{greatest_uid, instruction_count, next_pseudo};
 use rtx_tree::{Function, Insn, Insns, RegSet};
 use std::alloc::Global;
+use std::borrow::CowSlice;
 use std::marker::Model;
 use std::mem;
 
@@ -257,7 +260,13 @@ impl LiveChain {
     /// # Errors
     ///
     /// `Memory` where so many have no number, or where memory ran out.
-    pub fn count_between(&mut self, first: u32, end: u32, new: &[Insn]) -> Result<usize, Memory>
+    pub fn count_between(
+        &mut self,
+        alloc: Global,
+        first: u32,
+        end: u32,
+        new: &[Insn],
+    ) -> Result<usize, Memory>
         requires order { first ≤ end }
         requires within { end ≤ length self.old.insns }
         ensures count { IfOk result (λ n. n
@@ -266,17 +275,14 @@ impl LiveChain {
     {
         let all = self.instruction_count()?;
         self.insns.move_gap(end as usize)?;
-        // with the gap at its end the window stands in one piece
-        let Some(old) = self.insns.between(first as usize, end as usize) else {
-            return Err(Memory);
-        };
-        match count_around(all, old, new) {
+        let old = window_of(alloc, &self.insns, first, end)?;
+        match count_around(all, old.as_slice(), new) {
             Some(count) => Ok(count),
             None => Err(Memory),
         }
     }
 
-    /// Moves the gap to a place. The windows that end there stand in one piece then.
+    /// Moves the gap to a place. The windows that end there are lent then.
     ///
     /// # Errors
     ///
@@ -288,13 +294,18 @@ impl LiveChain {
         self.insns.move_gap(place as usize)
     }
 
-    /// The instructions of a window, that from place `first` up to place `end`, or `None` where the
-    /// gap is within it.
-    pub fn window(&self, first: u32, end: u32) -> Option<&[Insn]>
-        requires { first ≤ end }
-        ensures { IfSome result (λ insns. insns.now ≡ window self.now first end) }
+    /// The instructions of a window, that from place `first` up to place `end`. Where the gap
+    /// doesn't stand before its end they are lent, which takes no memory, and else copied.
+    ///
+    /// # Errors
+    ///
+    /// `Memory` where memory ran out.
+    pub fn window(&self, alloc: Global, first: u32, end: u32) -> Result<CowSlice<'_, Insn>, Memory>
+        requires order { first ≤ end }
+        requires within { end ≤ length self.now.insns }
+        ensures { IfOk result (λ insns. cow_slice_items insns ≡ window self.now first end) }
     {
-        self.insns.between(first as usize, end as usize)
+        window_of(alloc, &self.insns, first, end)
     }
 
     /// Puts new instructions in the place of a window, that from place `first` up to place `end`.
@@ -319,10 +330,8 @@ impl LiveChain {
         ensures kept { OnErr result (self.new ≡ self.old) }
     {
         self.insns.move_gap(end as usize)?;
-        // with the gap at its end the window stands in one piece
-        let Some(old) = self.insns.between(first as usize, end as usize) else {
-            return Err(Memory);
-        };
+        let window = window_of(alloc, &self.insns, first, end)?;
+        let old = window.as_slice();
         let greatest = uid_after(
             self.greatest,
             greatest_uid(old),
@@ -344,6 +353,7 @@ impl LiveChain {
             new.as_slice(),
         )?;
         let from = same_to(&inside);
+        drop(window);
         self.insns.splice(first as usize, end as usize, new)?;
         self.rows = rows_joined(self.rows.take(), end, inside);
         self.greatest = greatest;
@@ -372,11 +382,16 @@ impl LiveChain {
     {
         self.insns.move_gap(end as usize)?;
         move_rows(&mut self.rows, end)?;
-        // with the gap at its end the window stands in one piece
-        let Some(old) = self.insns.between(first as usize, end as usize) else {
-            return Err(Memory);
-        };
-        rows_inside(alloc, &self.insns, &self.rows, first, end, old, new)
+        let old = window_of(alloc, &self.insns, first, end)?;
+        rows_inside(
+            alloc,
+            &self.insns,
+            &self.rows,
+            first,
+            end,
+            old.as_slice(),
+            new,
+        )
     }
 
     /// Puts new instructions, with the rows that were made for them, in the place of a window that

@@ -10,6 +10,7 @@ ghost use Rattle.live_chain.specs.machine.Window.{AreLikeEnds, AreFound};
 
 use crate::behind::row_after;
 use crate::demand::differing_between;
+use crate::lent::window_of;
 use crate::sets::same_sets;
 use crate::settled::{tail_end, unsettled};
 use crate::wide::block_to;
@@ -58,10 +59,8 @@ fn rows_from(
     let Some(from) = block_to(alloc, insns, first, left)? else {
         return Ok(None);
     };
-    let Some(front) = insns.between(from as usize, first as usize) else {
-        return Ok(None);
-    };
-    let rows = rows_within(alloc, front, new, behind)?;
+    let front = window_of(alloc, insns, from, first)?;
+    let rows = rows_within(alloc, front.as_slice(), new, behind)?;
     Ok(Some(WindowRows { from, rows }))
 }
 

@@ -20,6 +20,7 @@ mod chain;
 mod demand;
 mod kept;
 mod leads;
+mod lent;
 mod narrow;
 mod numbers;
 mod room;

@@ -135,12 +135,10 @@ fn fits_between(
         (map (λ i. i.pattern) (window chain.old place end)) form) }
     ensures same { chain.new ≡ chain.old }
 {
+    // with the gap at its end the window is lent
     chain.move_gap(end)?;
-    // with the gap at its end the window stands in one piece
-    let Some(insns) = chain.window(place, end) else {
-        return Err(Memory);
-    };
-    has_shape(alloc, desc, insns, form)
+    let insns = chain.window(alloc, place, end)?;
+    has_shape(alloc, desc, insns.as_slice(), form)
 }
 
 /// What a form makes of so many instructions of one block at a place.
@@ -159,12 +157,10 @@ fn sequence_at(
     ensures same { chain.new ≡ chain.old }
 {
     let facts = facts_at(alloc, chain, place, count)?;
+    // with the gap at its end the window is lent
     chain.move_gap(end)?;
-    // with the gap at its end the window stands in one piece
-    let Some(insns) = chain.window(place, end) else {
-        return Err(Memory);
-    };
-    sequence_of(alloc, desc, &facts, insns, form)
+    let insns = chain.window(alloc, place, end)?;
+    sequence_of(alloc, desc, &facts, insns.as_slice(), form)
 }
 
 /// What a form makes of a window at a place, or `None` exactly where it rewrites none there.
@@ -181,7 +177,7 @@ fn rewrite_by(
     ensures same { chain.new ≡ chain.old }
 {
     let size = window_size(desc, form);
-    let Some(end) = run_end(chain, place, size)? else {
+    let Some(end) = run_end(alloc, chain, place, size)? else {
         return Ok(None);
     };
     // asked first: what conditions know takes more, and of most windows it is not wanted

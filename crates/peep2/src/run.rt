@@ -8,6 +8,7 @@ use live_chain::LiveChain;
 use plain_data::Memory;
 use rtl_func::is_jump;
 use rtx_tree::Insn;
+use std::alloc::Global;
 
 /// Whether no instruction follows.
 fn is_end(insns: &[Insn]) -> bool
@@ -32,7 +33,12 @@ fn is_run(insns: &[Insn]) -> bool
 
 /// The place behind so many instructions of one block from a place on, or `None` exactly where so
 /// many do not stand there. Places past 32 bits find no memory.
-pub fn run_end(chain: &mut LiveChain, place: u32, count: usize) -> Result<Option<u32>, Memory>
+pub fn run_end(
+    alloc: Global,
+    chain: &mut LiveChain,
+    place: u32,
+    count: usize,
+) -> Result<Option<u32>, Memory>
     requires { place < length chain.old.insns }
     ensures told { IfOk result (RunTold chain.old place count) }
     ensures same { chain.new ≡ chain.old }
@@ -44,12 +50,10 @@ pub fn run_end(chain: &mut LiveChain, place: u32, count: usize) -> Result<Option
     if end > u32::MAX as usize {
         return Err(Memory);
     }
+    // with the gap at its end the window is lent
     chain.move_gap(end as u32)?;
-    // with the gap at its end the window stands in one piece
-    let Some(window) = chain.window(place, end as u32) else {
-        return Err(Memory);
-    };
-    if is_run(window) {
+    let window = chain.window(alloc, place, end as u32)?;
+    if is_run(window.as_slice()) {
         Ok(Some(end as u32))
     } else {
         Ok(None)

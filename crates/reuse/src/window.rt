@@ -103,10 +103,8 @@ pub fn is_put(
         found.IsPutLast chain.old first end new.now → ⊥) }
     ensures same { chain.new ≡ chain.old }
 {
+    // with the gap at its end the window is lent
     chain.move_gap(end)?;
-    // with the gap at its end the window stands in one piece
-    let Some(window) = chain.window(first, end) else {
-        return Err(Memory);
-    };
-    is_equated(alloc, window, new)
+    let window = chain.window(alloc, first, end)?;
+    is_equated(alloc, window.as_slice(), new)
 }

@@ -46,14 +46,20 @@ fn insns_of(alloc: Global, chain: &mut LiveChain, end: u32, sequence: Kids) -> R
 }
 
 /// Refuses a function that would be too long with others in the place of a window.
-fn keep_few(chain: &mut LiveChain, first: u32, end: u32, new: &[Insn]) -> Result<(), PassRefusal>
+fn keep_few(
+    alloc: Global,
+    chain: &mut LiveChain,
+    first: u32,
+    end: u32,
+    new: &[Insn],
+) -> Result<(), PassRefusal>
     requires order { first < end }
     requires within { end ≤ length chain.old.insns }
     ensures few { steps.KeepsFew result
         (instruction_count (windows.replaced chain.old first end new.now).insns) }
     ensures same { chain.new ≡ chain.old }
 {
-    let count = chain.count_between(first, end, new)?;
+    let count = chain.count_between(alloc, first, end, new)?;
     if count > MOST_MADE {
         return Err(PassRefusal::Limit {
             which: Limit::Instructions,
@@ -81,7 +87,7 @@ fn made(
     ensures same { chain.new ≡ chain.old }
 {
     let insns = insns_of(alloc, chain, end, sequence)?;
-    keep_few(chain, first, end, insns.as_slice())?;
+    keep_few(alloc, chain, first, end, insns.as_slice())?;
     Ok(insns)
 }
 
@@ -114,13 +120,11 @@ fn compare(
     ensures same { chain.new ≡ chain.old }
 {
     let live = chain.live_after(alloc, end - 1)?;
+    // with the gap at its end the window is lent
     chain.move_gap(end)?;
-    // with the gap at its end the window stands in one piece
-    let Some(window) = chain.window(first, end) else {
-        return Err(PassRefusal::Memory);
-    };
+    let window = chain.window(alloc, first, end)?;
     let uid = chain.insn(first).uid;
-    judge(alloc, desc, form, uid, window, side, &live)
+    judge(alloc, desc, form, uid, window.as_slice(), side, &live)
 }
 
 /// Puts a sequence in the place of a window, that from place `first` up to place `end`, where it is

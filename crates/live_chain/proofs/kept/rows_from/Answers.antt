@@ -22,6 +22,6 @@ returns c =
       tail = c.tail_end-to.ensures.tail;
       demands = found_in a.old.now a.new.now tail front (has a.behind.now) c.in_ok-differing.differing c.in_ok-left.left c.in_ok-differing.ensures
           (λ reg. c.in_ok-left.ensures reg ∙ ap (λ l. has_reg l reg && not (is_settled a.old.now a.new.now tail reg)) c.as_slice.ensures.value) block.named;
-      rows = subst (λ (w : List Insn). AreRowsOf (w ++ a.new.now) (has a.behind.now) c.in_ok-rows.rows) c.in-Some-between.ensures c.in_ok-rows.ensures.rows;
+      rows = subst (λ (w : List Insn). AreRowsOf (w ++ a.new.now) (has a.behind.now) c.in_ok-rows.rows) (c.as_slice-2.ensures.value ∙ c.in_ok-front.ensures) c.in_ok-rows.ensures.rows;
       narrow = c.in_ok-rows.ensures.narrow;
     }

@@ -9,5 +9,5 @@ use Rattle.peep2.proofs.form.fits_between.Goals as goal
 pub returns-clause-never : goal.returns-clause-never
 returns-clause-never c =
     let a = c.args in
-    let there = c.in-Some.ensures ∙ ap (λ (f : Function). window f a.place a.end) c.move_gap.ensures in
+    let there = c.as_slice.ensures.value ∙ (c.in_ok-insns.ensures ∙ ap (λ (f : Function). window f a.place a.end) c.move_gap.ensures) in
     subst (λ (insns : List Insn). IfOk c.has_shape.result (λ fits. fits ≡ false → NeverMatchesAt a.desc.now (map (λ (i : Insn). i.pattern) insns) a.form)) there c.has_shape.ensures

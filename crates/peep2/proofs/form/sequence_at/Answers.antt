@@ -8,6 +8,6 @@ use Rattle.peep2.proofs.form.sequence_at.Goals as goal
 pub returns-clause-told : goal.returns-clause-told
 returns-clause-told c =
     let a = c.args in
-    let there = c.in-Some.ensures ∙ (ap (λ (f : Function). window f a.place a.end) (c.move_gap.ensures ∙ c.in_ok-facts.ensures.same) ∙ ap (window a.chain.now a.place) c.requires.runs.end_is) in
-    told_there_ok a.desc.now a.chain.now a.place a.count a.form c.in_ok-facts.facts (map (λ (i : Insn). i.pattern) c.in-Some.insns.now) c.sequence_of.result
+    let there = c.as_slice.ensures.value ∙ (c.in_ok-insns.ensures ∙ (ap (λ (f : Function). window f a.place a.end) (c.move_gap.ensures ∙ c.in_ok-facts.ensures.same) ∙ ap (window a.chain.now a.place) c.requires.runs.end_is)) in
+    told_there_ok a.desc.now a.chain.now a.place a.count a.form c.in_ok-facts.facts (map (λ (i : Insn). i.pattern) c.as_slice.result.now) c.sequence_of.result
     c.requires.runs.run c.in_ok-facts.ensures.known (ap (map (λ (i : Insn). i.pattern)) there) c.sequence_of.ensures

@@ -23,19 +23,19 @@ invariant_of-self-2 c =
           (rows_told f a.first a.end c.as_slice-4.result.now was.rows c.in_ok-inside.inside c.self.invariant.live
           (c.in_ok-inside.ensures.made f (sym c.move_gap.ensures) c.self.invariant.live))
           c.rows_joined.ensures;
-      uid = known_after (λ i. i.uid) was.insns c.move_gap.new.self c.in-Some.old.now a.new
+      uid = known_after (λ i. i.uid) was.insns c.move_gap.new.self c.as_slice-old.result.now a.new
           c.as_slice.result.now all a.first a.end c.greatest_uid.result c.greatest_uid-2.result was.greatest
-          c.uid_after-greatest.result c.requires.order c.move_gap.ensures c.in-Some.ensures
+          c.uid_after-greatest.result c.requires.order c.move_gap.ensures (c.as_slice-old.ensures.value ∙ c.in_ok-window.ensures)
           c.as_slice.ensures.value same c.greatest_uid.ensures c.greatest_uid-2.ensures c.self.invariant.uid
           c.uid_after-greatest.ensures.after;
-      pseudo = known_after (λ i. next_pseudo_in i.pattern) was.insns c.move_gap.new.self c.in-Some.old.now a.new
+      pseudo = known_after (λ i. next_pseudo_in i.pattern) was.insns c.move_gap.new.self c.as_slice-old.result.now a.new
           c.as_slice-2.result.now all a.first a.end c.next_pseudo.result c.next_pseudo-2.result was.next
-          c.pseudo_after-next.result c.requires.order c.move_gap.ensures c.in-Some.ensures
+          c.pseudo_after-next.result c.requires.order c.move_gap.ensures (c.as_slice-old.ensures.value ∙ c.in_ok-window.ensures)
           c.as_slice-2.ensures.value same c.next_pseudo.ensures c.next_pseudo-2.ensures c.self.invariant.pseudo
           c.pseudo_after-next.ensures.after;
-      instructions = count_known is_instruction was.insns c.move_gap.new.self c.in-Some.old.now a.new
+      instructions = count_known is_instruction was.insns c.move_gap.new.self c.as_slice-old.result.now a.new
           c.as_slice-3.result.now all a.first a.end c.instruction_count.result c.instruction_count-2.result was.count
-          c.count_after-count.result c.requires.order c.move_gap.ensures c.in-Some.ensures
+          c.count_after-count.result c.requires.order c.move_gap.ensures (c.as_slice-old.ensures.value ∙ c.in_ok-window.ensures)
           c.as_slice-3.ensures.value same c.instruction_count.ensures c.instruction_count-2.ensures c.self.invariant.instructions
           c.count_after-count.ensures;
     }

@@ -311,10 +311,10 @@ module _ (f : Function) (first end : ℕ) (old new : List Insn) (behind : ℕ �
     end_leads q = by old refl
       where
         by : (w : List Insn) → w ≡ old → leads f.insns (end - 1) q ≡ has_place (end ∷ []) q
-        by [] e = absurd (omega (arith, ap length (e ∙ is), long_range f.insns first end fits, order))
+        by [] e = absurd (omega (arith, (ap length (e ∙ is) ∙ long_range f.insns first end fits), order))
         by (i ∷ w) e =
             last_leads f.insns first (end - 1) q i w (subst (λ w. IsAt f.insns first w) (sym (e ∙ is)) (range_at f.insns first end fits))
-            (omega (arith, ap length (e ∙ is), long_range f.insns first end fits, order)) ∙
+            (omega (arith, (ap length (e ∙ is) ∙ long_range f.insns first end fits), order)) ∙
             (ap (λ n. has_place (flows_to f.insns n (flow_behind (i ∷ w))) q) {x = end - 1 + 1} {y = end} (omega (arith, order)) ∙
             ap (λ flow. has_place (flows_to f.insns end flow) q) (ap flow_behind (e ∙ sym (append-nil old)) ∙ flow_wide old [] old_passes))
 
@@ -323,10 +323,10 @@ module _ (f : Function) (first end : ℕ) (old new : List Insn) (behind : ℕ �
     tail_leads q = by (old ++ tail) refl
       where
         by : (w : List Insn) → w ≡ old ++ tail → leads f.insns (are.to - 1) q ≡ has_place (flows_to f.insns are.to (flow_behind tail)) q
-        by [] e = absurd (omega (arith, ap length e, long_whole, order, are.beyond))
+        by [] e = absurd (omega (arith, (ap length e ∙ long_whole), order, are.beyond))
         by (i ∷ w) e =
             last_leads f.insns first (are.to - 1) q i w (subst (λ w. IsAt f.insns first w) (sym (e ∙ whole)) (range_at f.insns first are.to are.fits))
-            (omega (arith, ap length e, long_whole, order, are.beyond)) ∙
+            (omega (arith, (ap length e ∙ long_whole), order, are.beyond)) ∙
             (ap (λ n. has_place (flows_to f.insns n (flow_behind (i ∷ w))) q) {x = are.to - 1 + 1} {y = are.to} (omega (arith, order, are.beyond)) ∙
             ap (λ flow. has_place (flows_to f.insns are.to flow) q) (ap flow_behind e ∙ flow_wide old tail old_passes))
 

@@ -180,14 +180,11 @@ module _ (f : Function) (rows : List (List ℕ)) (exact : AreLiveRows f rows) wh
       sym (live_first i [] (beyond_at f rows to (flow_of i)) reg))
   rows_along (i ∷ j ∷ t) p to reg at leading is =
       row_at p reg i (at_first f.insns p i (j ∷ t) at) (inner_first i (j ∷ t) leading) ∙
-      (ap (λ b. insn_uses i reg || (not (insn_defines i reg) && b)) on ∙
+      (ap (λ b. insn_uses i reg || (not (insn_defines i reg) && b))
+      (ap (λ flow. beyond_at f rows (p + 1) flow reg) (falls_first i j t leading) ∙
+      (or_none (has_at rows (p + 1) reg) ∙
+      rows_along (j ∷ t) (p + 1) to reg (at_rest f.insns p i (j ∷ t) at) (leads_rest i j t leading) (omega (arith, is)))) ∙
       sym (live_first i (j ∷ t) (beyond_at f rows to (flow_behind (j ∷ t))) reg))
-    where
-      on : beyond_at f rows (p + 1) (flow_of i) reg ≡ is_live_before (j ∷ t) (beyond_at f rows to (flow_behind (j ∷ t))) reg
-      on =
-          ap (λ flow. beyond_at f rows (p + 1) flow reg) (falls_first i j t leading) ∙
-          (or_none (has_at rows (p + 1) reg) ∙
-          rows_along (j ∷ t) (p + 1) to reg (at_rest f.insns p i (j ∷ t) at) (leads_rest i j t leading) (omega (arith, is)))
 
 -- ---- parts of lists
 

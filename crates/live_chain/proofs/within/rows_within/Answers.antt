@@ -1,4 +1,4 @@
-use Rattle.std.proofs.Common.{[], ◌++◌, ◌^◌, ◌≤◌, List, length, reverse, append-nil, sym, ap, subst, ◌∙◌, arith}
+use Rattle.std.proofs.Common.{[], ◌++◌, List, reverse, append-nil, sym, ap, subst, arith}
 use Rattle.reg_rows.specs.Row.{has}
 use Rattle.rtx_tree.specs.declared.function.Insn.{Insn}
 use Rattle.live_chain.specs.Narrow.{AreNarrow}

@@ -68,7 +68,7 @@ last_of (i ∷ j ∷ window) l =
     let rest = last_of (j ∷ window) (omega arith) in
     (rest.0, ap (slice_get (i ∷ j ∷ window)) {x = length (i ∷ j ∷ window) - 1} {y = suc (length (j ∷ window) - 1)} (omega arith) ∙ rest.1, rest.2)
 
-flow_from : (window : List Insn) (k : ℕ) → k < length window → flow_behind (drop k window) ≡ flow_behind window
+pub flow_from : (window : List Insn) (k : ℕ) → k < length window → flow_behind (drop k window) ≡ flow_behind window
 flow_from [] k l = absurd (omega arith)
 flow_from (i ∷ window) zero l = refl
 flow_from (i ∷ []) (suc k) l = absurd (omega arith)

@@ -1,30 +1,31 @@
 -- Windows with what stands behind them: what it asks for is live in front of it, whichever of two windows stands there.
-use Rattle.std.proofs.Common.{◌≡◌, ◌↔◌, ℕ, zero, suc, ◌+◌, ◌-◌, ◌<◌, ◌≤◌, ◌^◌, Bool, true, false, ◌||◌, ◌&&◌, not, List, [], ◌∷◌, ◌++◌, length, take, drop, drop-drop, append-nil, append_assoc, Option, Some, None, inl, inr, ◌⊎◌, refl, sym, ap, subst, ◌∙◌, arith}
+use Rattle.std.proofs.Common.{◌≡◌, ◌↔◌, ℕ, zero, suc, ◌+◌, ◌-◌, ◌<◌, ◌≤◌, ◌^◌, Bool, true, false, ◌||◌, ◌&&◌, not, List, [], ◌∷◌, ◌++◌, length, take, drop, drop-drop, append-nil, append_assoc, Some, inl, inr, ◌⊎◌, refl, sym, ap, subst, ◌∙◌, eqb, arith}
 use Rattle.std.specs.Prelude.{slice_get, slice_range}
 use Rattle.std.specs.List.{list_any, list_all}
-use Rattle.std.proofs.lemmas.Bool.{or_cases, or_left, or_right, and_from, and_parts, false≢true, cases_lt}
+use Rattle.std.proofs.lemmas.Bool.{or_cases, or_left, or_right, and_from, and_parts, eqb-true, false≢true, cases_lt}
 use Rattle.std.proofs.lemmas.List.{length-append, length-drop, length-take-le, take-append-drop}
 use Rattle.std.proofs.lemmas.List.Elements.{All-append, All-take, All-drop}
 use Rattle.std.proofs.lemmas.List.Folds.{list_any-append, list_all-append}
-use Rattle.std.proofs.lemmas.Option.{none-some, same_Some, slice_get_within}
+use Rattle.std.proofs.lemmas.Option.{same_Some, slice_get_within}
 use Rattle.rtx_tree.specs.declared.function.Insn.{Insn}
 use Rattle.rtx_tree.specs.declared.function.Function.{Function}
 use Rattle.rtx_tree.specs.RegSet.{has_reg}
 use Rattle.reg_rows.specs.Table.{has_at, at_row}
 use Rattle.reg_uses.specs.Uses.{insn_uses, insn_defines, insn_sets, is_return, return_uses}
-use Rattle.rtl_func.specs.Blocks.{is_jump_kind}
+use Rattle.rtl_func.specs.declared.flow.Flow.{Flow}
+use Rattle.rtl_func.specs.Successors.{flow_of}
 use Rattle.rtl_func.specs.Paths.{has_place, leads}
 use Rattle.live.specs.Live.{IsLive, AtEnd, AtUse, Passing, IsLiveAfter, AreLiveRows, uses_in}
 use Rattle.new_insns.specs.Replaced.{window, replaced}
 use Rattle.live_chain.specs.declared.kept.WindowRows.{WindowRows}
 use Rattle.live_chain.specs.Stays.{StaysBefore}
 use Rattle.live_chain.specs.Rows.{AreRowsFor}
-use Rattle.live_chain.specs.machine.Window.{asks_for, defines_in, names_in, is_inner, leads_last, passes, is_live_before, is_settled, IsAlike, AreLikeEnds, AreRowsOf, AreInside, AreFound}
+use Rattle.live_chain.specs.machine.Window.{asks_for, defines_in, names_in, flow_behind, is_inner, leads_last, passes, is_live_before, is_settled, IsAlike, AreLikeEnds, AreRowsOf, AreInside, AreFound}
 use Rattle.live_chain.proofs.MoveLaws.{get_ahead, get_from}
-use Rattle.live_chain.proofs.FlowLaws.{flows_to, flows_at, falls_by, not_false, both_left, both_right, returns_not, has_first}
-use Rattle.live_chain.proofs.PassLaws.{IsAt, at_first, at_rest}
-use Rattle.live_chain.proofs.CrossLaws.{uses_inner, place_one}
-use Rattle.live_chain.proofs.RowLaws.{get_dropped}
+use Rattle.live_chain.proofs.FlowLaws.{flows_to, flows_at, falls_first, leads_rest, inner_first, not_false, returns_not, has_first}
+use Rattle.live_chain.proofs.PassLaws.{IsAt, at_first, at_rest, leads_end}
+use Rattle.live_chain.proofs.CrossLaws.{uses_inner, place_one, leads_drop}
+use Rattle.live_chain.proofs.RowLaws.{get_dropped, flow_from}
 use Rattle.live_chain.proofs.WideLaws.{alike_behind, named_behind, leads_wide, flow_wide, range_parts, range_step, wide_rows, wide_stays}
 
 -- ---- what two windows ask for and define, one behind the other
@@ -105,55 +106,87 @@ same_bool true false e f = absurd (false≢true (e refl))
 same_bool false true e f = absurd (false≢true (f refl))
 same_bool false false e f = refl
 
--- an instruction that passes leads to the next place alone
-leads_on : (insns : List Insn) (p q : ℕ) (i : Insn) → slice_get insns p ≡ Some i → passes i ≡ true → leads insns p q ≡ has_place ((p + 1) ∷ []) q
-leads_on insns p q i at passing =
-    ap (λ places. has_place places q) (flows_at insns p i at ∙ ap (flows_to insns (p + 1)) (falls_by i.kind i.pattern (not_false (is_jump_kind i.kind) (both_right (is_inner i) (not (is_jump_kind i.kind)) passing))))
+or_none : (b : Bool) → (b || false) ≡ b
+or_none true = refl
+or_none false = refl
+
+any_found : (P : ℕ → Bool) (places : List ℕ) → list_any P places ≡ true → (q : ℕ) × (has_place places q ≡ true) × (P q ≡ true)
+any_found P [] h = absurd (false≢true h)
+any_found P (p ∷ places) h =
+    elim (or_cases (P p) (list_any P places) h) [
+      | inl here ↦ (p, has_first p places, here)
+      | inr more ↦
+          let found = any_found P places more in
+          (found.0, or_right (eqb p found.0) (has_place places found.0) found.1, found.2)
+    ]
+
+any_has : (P : ℕ → Bool) (places : List ℕ) (q : ℕ) → has_place places q ≡ true → P q ≡ true → list_any P places ≡ true
+any_has P [] q h e = absurd (false≢true h)
+any_has P (p ∷ places) q h e =
+    elim (or_cases (eqb p q) (has_place places q) h) [
+      | inl is ↦ or_left (P p) (list_any P places) (subst (λ n. P n ≡ true) (sym (eqb-true p q is)) e)
+      | inr more ↦ or_right (P p) (list_any P places) (any_has P places q more e)
+    ]
+
+-- where the last of several leads
+last_leads : (insns : List Insn) (p last q : ℕ) (i : Insn) (w : List Insn) → IsAt insns p (i ∷ w) → last ≡ p + length w →
+    leads insns last q ≡ has_place (flows_to insns (last + 1) (flow_behind (i ∷ w))) q
+last_leads insns p last q i [] at is =
+    ap (λ places. has_place places q) (flows_at insns last i (subst (λ n. slice_get insns n ≡ Some i) {x = p} {y = last} (omega (arith, is)) (at_first insns p i [] at)))
+last_leads insns p last q i (j ∷ w) at is = last_leads insns (p + 1) last q j w (at_rest insns p i (j ∷ w) at) (omega (arith, is))
+
+-- the row of a place to which a flow leads has the register, where the next place is this
+abbrev beyond_at : Function → List (List ℕ) → ℕ → Flow → ℕ → Bool
+beyond_at f rows next flow reg = list_any (λ q. has_at rows q reg) (flows_to f.insns next flow)
 
 module _ (f : Function) (rows : List (List ℕ)) (exact : AreLiveRows f rows) where
-  live_step : (p reg : ℕ) (i : Insn) → slice_get f.insns p ≡ Some i → passes i ≡ true → (q : ℕ) → IsLive f reg q → q ≡ p →
-      (insn_uses i reg || (not (insn_defines i reg) && has_at rows (p + 1) reg)) ≡ true
-  live_step p reg i at passing _ (AtEnd u) is = absurd (omega (arith, is, slice_get_within f.insns p i at))
-  live_step p reg i at passing _ (AtUse q j there u) is =
+  live_step : (p reg : ℕ) (i : Insn) → slice_get f.insns p ≡ Some i → is_inner i ≡ true → (q : ℕ) → IsLive f reg q → q ≡ p →
+      (insn_uses i reg || (not (insn_defines i reg) && beyond_at f rows (p + 1) (flow_of i) reg)) ≡ true
+  live_step p reg i at inner _ (AtEnd u) is = absurd (omega (arith, is, slice_get_within f.insns p i at))
+  live_step p reg i at inner _ (AtUse q j there u) is =
       let same : j ≡ i = same_Some j i (sym there ∙ (ap (slice_get f.insns) is ∙ at)) in
-      or_left (insn_uses i reg) (not (insn_defines i reg) && has_at rows (p + 1) reg)
-      (uses_inner f reg i (returns_not i (both_left (is_inner i) (not (is_jump_kind i.kind)) passing)) (subst (λ j. uses_in f j reg ≡ true) same u))
-  live_step p reg i at passing _ (Passing q r j there free to live) is =
+      or_left (insn_uses i reg) (not (insn_defines i reg) && beyond_at f rows (p + 1) (flow_of i) reg)
+      (uses_inner f reg i (returns_not i inner) (subst (λ j. uses_in f j reg ≡ true) same u))
+  live_step p reg i at inner _ (Passing q r j there free to live) is =
       let same : j ≡ i = same_Some j i (sym there ∙ (ap (slice_get f.insns) is ∙ at)) in
-      let next : r ≡ p + 1 = place_one (p + 1) r (sym (leads_on f.insns p r i at passing) ∙ subst (λ n. leads f.insns n r ≡ true) is to) in
-      or_right (insn_uses i reg) (not (insn_defines i reg) && has_at rows (p + 1) reg)
-      (and_from (not (insn_defines i reg)) (has_at rows (p + 1) reg) (ap not (subst (λ j. insn_defines j reg ≡ false) same free)) (exact.complete (p + 1) reg (subst (IsLive f reg) next live)))
+      let here : has_place (flows_to f.insns (p + 1) (flow_of i)) r ≡ true =
+      sym (ap (λ places. has_place places r) (flows_at f.insns p i at)) ∙ subst (λ n. leads f.insns n r ≡ true) is to in
+      or_right (insn_uses i reg) (not (insn_defines i reg) && beyond_at f rows (p + 1) (flow_of i) reg)
+      (and_from (not (insn_defines i reg)) (beyond_at f rows (p + 1) (flow_of i) reg) (ap not (subst (λ j. insn_defines j reg ≡ false) same free))
+      (any_has (λ q. has_at rows q reg) (flows_to f.insns (p + 1) (flow_of i)) r here (exact.complete r reg live)))
 
-  row_at : (p reg : ℕ) (i : Insn) → slice_get f.insns p ≡ Some i → passes i ≡ true →
-      has_at rows p reg ≡ (insn_uses i reg || (not (insn_defines i reg) && has_at rows (p + 1) reg))
-  row_at p reg i at passing = same_bool (has_at rows p reg) (insn_uses i reg || (not (insn_defines i reg) && has_at rows (p + 1) reg))
-      (λ h. live_step p reg i at passing p (exact.sound p reg h) refl)
+  row_at : (p reg : ℕ) (i : Insn) → slice_get f.insns p ≡ Some i → is_inner i ≡ true →
+      has_at rows p reg ≡ (insn_uses i reg || (not (insn_defines i reg) && beyond_at f rows (p + 1) (flow_of i) reg))
+  row_at p reg i at inner = same_bool (has_at rows p reg) (insn_uses i reg || (not (insn_defines i reg) && beyond_at f rows (p + 1) (flow_of i) reg))
+      (λ h. live_step p reg i at inner p (exact.sound p reg h) refl)
       (λ h. exact.complete p reg (back h))
     where
-      back : (insn_uses i reg || (not (insn_defines i reg) && has_at rows (p + 1) reg)) ≡ true → IsLive f reg p
+      back : (insn_uses i reg || (not (insn_defines i reg) && beyond_at f rows (p + 1) (flow_of i) reg)) ≡ true → IsLive f reg p
       back h =
-          elim (or_cases (insn_uses i reg) (not (insn_defines i reg) && has_at rows (p + 1) reg) h) [
+          elim (or_cases (insn_uses i reg) (not (insn_defines i reg) && beyond_at f rows (p + 1) (flow_of i) reg) h) [
             | inl u ↦ AtUse p i at (or_left (insn_uses i reg) (is_return i && return_uses f reg) u)
             | inr w ↦
-                let both = and_parts (not (insn_defines i reg)) (has_at rows (p + 1) reg) w in
-                Passing p (p + 1) i at (not_false (insn_defines i reg) both.0) (leads_on f.insns p (p + 1) i at passing ∙ has_first (p + 1) []) (exact.sound (p + 1) reg both.1)
+                let both = and_parts (not (insn_defines i reg)) (beyond_at f rows (p + 1) (flow_of i) reg) w in
+                let found = any_found (λ q. has_at rows q reg) (flows_to f.insns (p + 1) (flow_of i)) both.1 in
+                Passing p found.0 i at (not_false (insn_defines i reg) both.0) (leads_end f.insns p found.0 i at found.1) (exact.sound found.0 reg found.2)
           ]
 
-  -- the row in front of what leads on, by the row behind it
-  rows_along : (t : List Insn) (p to reg : ℕ) → IsAt f.insns p t → list_all passes t ≡ true → to ≡ p + length t → has_at rows p reg ≡ is_live_before t (has_at rows to) reg
-  rows_along [] p to reg at passing is = ap (λ n. has_at rows n reg) (omega (arith, is))
-  rows_along (i ∷ t) p to reg at passing is =
-      let both = and_parts (passes i) (list_all passes t) passing in
-      row_at p reg i (at_first f.insns p i t at) both.0 ∙
-      (ap (λ b. insn_uses i reg || (not (insn_defines i reg) && b)) (rows_along t (p + 1) to reg (at_rest f.insns p i t at) both.1 (omega (arith, is))) ∙
-      sym (live_first i t (has_at rows to) reg))
+  -- the row in front of what leads on, by the rows of the places to which its last leads
+  rows_along : (t : List Insn) (p to reg : ℕ) → IsAt f.insns p t → leads_last t ≡ true → to ≡ p + length t → has_at rows p reg ≡ is_live_before t (beyond_at f rows to (flow_behind t)) reg
+  rows_along [] p to reg at leading is = ap (λ n. has_at rows n reg) {x = p} {y = to} (omega (arith, is)) ∙ sym (or_none (has_at rows to reg))
+  rows_along (i ∷ []) p to reg at leading is =
+      row_at p reg i (at_first f.insns p i [] at) leading ∙
+      (ap (λ n. insn_uses i reg || (not (insn_defines i reg) && beyond_at f rows n (flow_of i) reg)) {x = p + 1} {y = to} (omega (arith, is)) ∙
+      sym (live_first i [] (beyond_at f rows to (flow_of i)) reg))
+  rows_along (i ∷ j ∷ t) p to reg at leading is =
+      row_at p reg i (at_first f.insns p i (j ∷ t) at) (inner_first i (j ∷ t) leading) ∙
+      (ap (λ b. insn_uses i reg || (not (insn_defines i reg) && b))
+      (ap (λ flow. beyond_at f rows (p + 1) flow reg) (falls_first i j t leading) ∙
+      (or_none (has_at rows (p + 1) reg) ∙
+      rows_along (j ∷ t) (p + 1) to reg (at_rest f.insns p i (j ∷ t) at) (leads_rest i j t leading) (omega (arith, is)))) ∙
+      sym (live_first i (j ∷ t) (beyond_at f rows to (flow_behind (j ∷ t))) reg))
 
 -- ---- parts of lists
-
-none_within : {X : Type 0} (xs : List X) (k : ℕ) → k < length xs → slice_get xs k ≡ None → ⊥
-none_within [] k l e = omega (arith, l)
-none_within (x ∷ xs) zero l e = none-some x (sym e)
-none_within (x ∷ xs) (suc k) l e = none_within xs k (omega (arith, l)) e
 
 get_taken : {X : Type 0} (xs : List X) (n k : ℕ) → k < n → slice_get (take n xs) k ≡ slice_get xs k
 get_taken [] zero k l = absurd (omega (arith, l))
@@ -175,17 +208,6 @@ range_at insns from to l k i e =
 
 at_drop : (insns : List Insn) (p : ℕ) (t : List Insn) (k : ℕ) → IsAt insns p t → IsAt insns (p + k) (drop k t)
 at_drop insns p t k at n i e = subst (λ m. slice_get insns m ≡ Some i) {x = p + (k + n)} {y = p + k + n} (omega arith) (at (k + n) i (sym (get_dropped t k n) ∙ e))
-
-passes_drop : (t : List Insn) (k : ℕ) → list_all passes t ≡ true → list_all passes (drop k t) ≡ true
-passes_drop [] zero e = refl
-passes_drop [] (suc k) e = refl
-passes_drop (i ∷ t) zero e = e
-passes_drop (i ∷ t) (suc k) e = passes_drop t k (and_parts (passes i) (list_all passes t) e).1
-
-passes_at : (t : List Insn) (k : ℕ) (i : Insn) → list_all passes t ≡ true → slice_get t k ≡ Some i → passes i ≡ true
-passes_at [] k i e at = absurd (omega (arith, slice_get_within [] k i at))
-passes_at (j ∷ t) zero i e at = subst (λ j. passes j ≡ true) (same_Some j i at) (and_parts (passes j) (list_all passes t) e).0
-passes_at (j ∷ t) (suc k) i e at = passes_at t k i (and_parts (passes j) (list_all passes t) e).1 at
 
 range_rest : {X : Type 0} (xs : List X) (from to : ℕ) → from ≤ to → slice_range xs from to ++ drop to xs ≡ drop from xs
 range_rest xs from to l =
@@ -267,7 +289,7 @@ module _ (f : Function) (first end : ℕ) (old new : List Insn) (behind : ℕ �
 
   module _ (rows : List (List ℕ)) (exact : AreLiveRows f rows) (old_passes : list_all passes old ≡ true) (new_passes : list_all passes new ≡ true) where
     abbrev beyond : ℕ → Bool
-    beyond = has_at rows are.to
+    beyond = beyond_at f rows are.to (flow_behind tail)
 
     abbrev rest : List (List ℕ)
     rest = slice_range rows end are.to
@@ -281,39 +303,40 @@ module _ (f : Function) (first end : ℕ) (old new : List Insn) (behind : ℕ �
     long_whole : length (old ++ tail) ≡ are.to - first
     long_whole = ap length whole ∙ long_range f.insns first are.to are.fits
 
-    all_pass : list_all passes (old ++ tail) ≡ true
-    all_pass = list_all-append passes old tail ∙ and_from (list_all passes old) (list_all passes tail) old_passes are.tail.passing
-
-    -- the place behind them is entered from the last alone
-    last_leads : (place q : ℕ) → first ≤ place → place < are.to → leads f.insns place q ≡ has_place ((place + 1) ∷ []) q
-    last_leads place q from to =
-        let at = found (place - first) (omega (arith, from, to)) in
-        leads_on f.insns place q at.0 at.1 at.2
+    -- the window leads to the place behind it alone
+    end_leads : (q : ℕ) → leads f.insns (end - 1) q ≡ has_place (end ∷ []) q
+    end_leads q = by old refl
       where
-        found : (k : ℕ) → k < are.to - first → (i : Insn) × (slice_get f.insns place ≡ Some i) × (passes i ≡ true)
-        found k l = by (slice_get (old ++ tail) (place - first)) refl
-          where
-            by : (o : Option Insn) → slice_get (old ++ tail) (place - first) ≡ o → (i : Insn) × (slice_get f.insns place ≡ Some i) × (passes i ≡ true)
-            by None e = absurd (none_within (old ++ tail) (place - first) (omega (arith, from, to, long_whole)) e)
-            by (Some i) e = (
-              i,
-              subst (λ n. slice_get f.insns n ≡ Some i) {x = first + (place - first)} {y = place} (omega (arith, from)) (range_at f.insns first are.to are.fits (place - first) i (ap (λ w. slice_get w (place - first)) (sym whole) ∙ e)),
-              passes_at (old ++ tail) (place - first) i all_pass e,
-            )
+        by : (w : List Insn) → w ≡ old → leads f.insns (end - 1) q ≡ has_place (end ∷ []) q
+        by [] e = absurd (omega (arith, (ap length (e ∙ is) ∙ long_range f.insns first end fits), order))
+        by (i ∷ w) e =
+            last_leads f.insns first (end - 1) q i w (subst (λ w. IsAt f.insns first w) (sym (e ∙ is)) (range_at f.insns first end fits))
+            (omega (arith, (ap length (e ∙ is) ∙ long_range f.insns first end fits), order)) ∙
+            (ap (λ n. has_place (flows_to f.insns n (flow_behind (i ∷ w))) q) {x = end - 1 + 1} {y = end} (omega (arith, order)) ∙
+            ap (λ flow. has_place (flows_to f.insns end flow) q) (ap flow_behind (e ∙ sym (append-nil old)) ∙ flow_wide old [] old_passes))
+
+    -- and with its tail to where that leads
+    tail_leads : (q : ℕ) → leads f.insns (are.to - 1) q ≡ has_place (flows_to f.insns are.to (flow_behind tail)) q
+    tail_leads q = by (old ++ tail) refl
+      where
+        by : (w : List Insn) → w ≡ old ++ tail → leads f.insns (are.to - 1) q ≡ has_place (flows_to f.insns are.to (flow_behind tail)) q
+        by [] e = absurd (omega (arith, (ap length e ∙ long_whole), order, are.beyond))
+        by (i ∷ w) e =
+            last_leads f.insns first (are.to - 1) q i w (subst (λ w. IsAt f.insns first w) (sym (e ∙ whole)) (range_at f.insns first are.to are.fits))
+            (omega (arith, (ap length e ∙ long_whole), order, are.beyond)) ∙
+            (ap (λ n. has_place (flows_to f.insns n (flow_behind (i ∷ w))) q) {x = are.to - 1 + 1} {y = are.to} (omega (arith, order, are.beyond)) ∙
+            ap (λ flow. has_place (flows_to f.insns are.to flow) q) (ap flow_behind e ∙ flow_wide old tail old_passes))
 
     is_beyond : (reg : ℕ) → (beyond reg ≡ true) ↔ IsLiveAfter f reg (are.to - 1)
     is_beyond reg = (there, back)
       where
-        next : are.to - 1 + 1 ≡ are.to
-        next = omega (arith, order, are.beyond)
-
         there : beyond reg ≡ true → IsLiveAfter f reg (are.to - 1)
-        there h = (are.to, last_leads (are.to - 1) are.to (omega (arith, order, are.beyond)) (omega (arith, order, are.beyond)) ∙ (ap (λ n. has_place (n ∷ []) are.to) next ∙ has_first are.to []), exact.sound are.to reg h)
+        there h =
+            let found = any_found (λ q. has_at rows q reg) (flows_to f.insns are.to (flow_behind tail)) h in
+            (found.0, tail_leads found.0 ∙ found.1, exact.sound found.0 reg found.2)
 
         back : IsLiveAfter f reg (are.to - 1) → beyond reg ≡ true
-        back live =
-            let at : live.0 ≡ are.to = place_one (are.to - 1 + 1) live.0 (sym (last_leads (are.to - 1) live.0 (omega (arith, order, are.beyond)) (omega (arith, order, are.beyond))) ∙ live.1) ∙ next in
-            exact.complete are.to reg (subst (IsLive f reg) at live.2)
+        back live = any_has (λ q. has_at rows q reg) (flows_to f.insns are.to (flow_behind tail)) live.0 (sym (tail_leads live.0) ∙ live.1) (exact.complete live.0 reg live.2)
 
     tail_at : IsAt f.insns end tail
     tail_at = range_at f.insns end are.to are.fits
@@ -327,40 +350,35 @@ module _ (f : Function) (first end : ℕ) (old new : List Insn) (behind : ℕ �
     -- what is live behind the window is so in front of the tail
     behind_is : (reg : ℕ) → behind reg ≡ is_live_before tail beyond reg
     behind_is reg =
-        same_bool (behind reg) (has_at rows end reg) one two ∙ rows_along f rows exact tail end are.to reg tail_at are.tail.passing (omega (arith, long_tail, are.beyond))
+        same_bool (behind reg) (has_at rows end reg) one two ∙ rows_along f rows exact tail end are.to reg tail_at are.tail.leading (omega (arith, long_tail, are.beyond))
       where
-        next : end - 1 + 1 ≡ end
-        next = omega (arith, order)
-
         one : behind reg ≡ true → has_at rows end reg ≡ true
         one h =
             let live = (is_behind reg).0 h in
-            let at : live.0 ≡ end = place_one (end - 1 + 1) live.0 (sym (last_leads (end - 1) live.0 (omega (arith, order)) (omega (arith, order, are.beyond))) ∙ live.1) ∙ next in
+            let at : live.0 ≡ end = place_one end live.0 (sym (end_leads live.0) ∙ live.1) in
             exact.complete end reg (subst (IsLive f reg) at live.2)
 
         two : has_at rows end reg ≡ true → behind reg ≡ true
-        two h = (is_behind reg).1 (end, last_leads (end - 1) end (omega (arith, order)) (omega (arith, order, are.beyond)) ∙ (ap (λ n. has_place (n ∷ []) end) next ∙ has_first end []), exact.sound end reg h)
+        two h = (is_behind reg).1 (end, end_leads end ∙ has_first end [], exact.sound end reg h)
 
     rows_tail : AreRowsOf tail beyond rest
     rows_tail = record {
       long = long_rest ∙ sym long_tail;
       each = λ k reg l.
           ap (λ o. at_row o reg) (get_ranged rows end are.to k (omega (arith, l, long_tail))) ∙
-          rows_along f rows exact (drop k tail) (end + k) are.to reg (at_drop f.insns end tail k tail_at) (passes_drop tail k are.tail.passing) (omega (arith, l, long_tail, length-drop k tail, are.beyond));
+          (rows_along f rows exact (drop k tail) (end + k) are.to reg (at_drop f.insns end tail k tail_at) (leads_drop tail k are.tail.leading) (omega (arith, l, long_tail, length-drop k tail, are.beyond)) ∙
+          ap (λ flow. is_live_before (drop k tail) (beyond_at f rows are.to flow) reg) (flow_from tail k (omega (arith, l))));
     }
 
     ends_tail : AreLikeEnds (old ++ tail) (new ++ tail)
     ends_tail = record {
-      old_leads = leads_wide old tail old_passes leads_tail;
-      new_leads = leads_wide new tail new_passes leads_tail;
+      old_leads = leads_wide old tail old_passes are.tail.leading;
+      new_leads = leads_wide new tail new_passes are.tail.leading;
       flow = flow_wide old tail old_passes ∙ sym (flow_wide new tail new_passes);
       sets = λ reg kept.
           list_any-append (insn_sets reg) old tail ∙
           (ap (λ b. b || list_any (insn_sets reg) tail) (ends.sets reg kept) ∙ sym (list_any-append (insn_sets reg) new tail));
     }
-      where
-        leads_tail : leads_last tail ≡ true
-        leads_tail = ap leads_last (sym (append-nil tail)) ∙ leads_wide tail [] are.tail.passing refl
 
     inside_tail : AreInside f.insns first (old ++ tail) (new ++ tail) beyond wider
     inside_tail = record {
@@ -446,6 +464,17 @@ pub passing_more : (insns : List Insn) (end to : ℕ) (i : Insn) → end ≤ to 
 passing_more insns end to i l at passing all =
     ap (list_all passes) (range_parts insns end to (to + 1) l (omega arith) ∙ ap (λ w. slice_range insns end to ++ w) (one_range insns to i at)) ∙
     (list_all-append passes (slice_range insns end to) (i ∷ []) ∙ and_from (list_all passes (slice_range insns end to)) (list_all passes (i ∷ [])) all (and_from (passes i) true passing refl))
+
+-- what passes leads on
+pub leads_passing : (w : List Insn) → list_all passes w ≡ true → leads_last w ≡ true
+leads_passing w all = ap leads_last (sym (append-nil w)) ∙ leads_wide w [] all refl
+
+-- and so it does with one more that is neither a label nor a return
+pub leads_more : (insns : List Insn) (end to : ℕ) (i : Insn) → end ≤ to → slice_get insns to ≡ Some i → is_inner i ≡ true →
+    list_all passes (slice_range insns end to) ≡ true → leads_last (slice_range insns end (to + 1)) ≡ true
+leads_more insns end to i l at inner all =
+    ap leads_last (range_parts insns end to (to + 1) l (omega arith) ∙ ap (λ w. slice_range insns end to ++ w) (one_range insns to i at)) ∙
+    leads_wide (slice_range insns end to) (i ∷ []) all inner
 
 -- what stands between two places, the first of it in front
 pub range_first : {X : Type 0} (xs : List X) (p to : ℕ) (x : X) → p < to → slice_get xs p ≡ Some x → slice_range xs p to ≡ x ∷ slice_range xs (p + 1) to

@@ -1,8 +1,10 @@
 -- Windows, taken up from their ends.
-use Rattle.std.proofs.Common.{◌≡◌, ℕ, zero, suc, ◌-◌, ◌<◌, ◌≤◌, Bool, true, false, ◌||◌, ◌&&◌, not, List, [], ◌∷◌, ◌++◌, length, drop, get_or, drop-cons, Some, refl, sym, ap, subst, ◌∙◌, arith}
+use Rattle.std.proofs.Common.{◌≡◌, ℕ, zero, suc, ◌-◌, ◌<◌, ◌≤◌, ◌^◌, Bool, true, false, ◌||◌, ◌&&◌, not, List, [], ◌∷◌, ◌++◌, length, drop, reverse, get_or, drop-cons, Some, refl, sym, ap, subst, ◌∙◌, arith}
 use Rattle.std.specs.Prelude.{slice_get}
 use Rattle.std.specs.List.{list_all}
 use Rattle.std.proofs.lemmas.Bool.{and_parts, and_from, false≢true}
+use Rattle.std.proofs.lemmas.List.{reverse-append}
+use Rattle.std.proofs.lemmas.List.Elements.{All-push, All-head, All-tail}
 use Rattle.std.proofs.lemmas.List.Folds.{list_any-append}
 use Rattle.std.proofs.lemmas.Option.{same_Some, slice_get_within}
 use Rattle.std.proofs.Math.Bool.{or-false}
@@ -18,6 +20,7 @@ use Rattle.rtl_func.specs.declared.flow.Flow.TheVariants.{Falls}
 use Rattle.rtl_func.specs.Blocks.{is_jump_kind}
 use Rattle.rtl_func.specs.Successors.{flow_by, flow_of, jump_flow}
 use Rattle.live_chain.specs.declared.demand.Demand.{Demand}
+use Rattle.live_chain.specs.Narrow.{AreNarrow}
 use Rattle.live_chain.specs.machine.Demand.{IsDemandOf}
 use Rattle.live_chain.specs.machine.Window.{asks_for, defines_in, flow_behind, is_inner, leads_last, is_live_before, AreRowsOf, first_has}
 use Rattle.live_chain.proofs.FlowLaws.{falls_by}
@@ -110,6 +113,20 @@ more_live : (u d a s b : Bool) → (u || (not d && (a || (not s && b)))) ≡ ((u
 more_live true d a s b = refl
 more_live false true a s b = refl
 more_live false false a s b = refl
+
+-- of rows with the last first, that in front of the others
+pub last_has : (rows before : List (List ℕ)) (row behind : List ℕ) (reg : ℕ) → rows ≡ before ++ row ∷ [] → first_has (reverse rows) behind reg ≡ has row reg
+last_has rows before row behind reg is =
+    ap (λ (l : List (List ℕ)). first_has (reverse l) behind reg) is ∙ ap (λ l. first_has l behind reg) (reverse-append before (row ∷ []))
+
+pub none_has : (rows : List (List ℕ)) (behind : List ℕ) (reg : ℕ) → rows ≡ [] → first_has (reverse rows) behind reg ≡ has behind reg
+none_has rows behind reg is = ap (λ (l : List (List ℕ)). first_has (reverse l) behind reg) is
+
+pub narrow_turned : (rows : List (List ℕ)) → AreNarrow rows → AreNarrow (reverse rows)
+narrow_turned [] narrow = narrow
+narrow_turned (row ∷ rows) narrow =
+    subst AreNarrow (sym (reverse-append (row ∷ []) rows))
+    (All-push (λ row. length row ≤ 2 ^ 26) (reverse rows) row (narrow_turned rows (All-tail (λ row. length row ≤ 2 ^ 26) row rows narrow)) (All-head (λ row. length row ≤ 2 ^ 26) row rows narrow))
 
 -- the first row of a window has what is live before the window
 first_live : (window : List Insn) (behind : List ℕ) (rows : List (List ℕ)) → AreRowsOf window (has behind) rows → (reg : ℕ) → first_has rows behind reg ≡ is_live_before window (has behind) reg

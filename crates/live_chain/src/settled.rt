@@ -4,7 +4,7 @@ ghost use Rattle.std.specs.List.{list_all};
 ghost use Rattle.rtx_tree.specs.RegSet.{has_reg};
 ghost use Rattle.live_chain.specs.machine.Window as spec;
 
-use crate::window::{all_pass, passes};
+use crate::window::{all_pass, is_inner, passes};
 use gap_list::GapList;
 use plain_data::Memory;
 use reg_uses::{Regs, does_define, does_use};
@@ -34,6 +34,28 @@ fn passing_to(insns: &GapList<Insn>, end: u32) -> u32
     to
 }
 
+/// The place up to which what stands from one on, so far as it is looked at, is left at its end
+/// alone, by no return, and entered at its beginning alone: the jump at the end of a block is seen
+/// too.
+#[tactic(auto, using(crate::proofs::TailLaws::leads_more, crate::proofs::TailLaws::leads_passing))]
+fn leading_to(insns: &GapList<Insn>, end: u32) -> u32
+    requires within { end ≤ length insns.now }
+    requires short { length insns.now < 2 ^ 32 }
+    ensures order { end ≤ result }
+    ensures within { result ≤ length insns.now }
+    ensures leading { spec.leads_last (slice_range insns.now end result) ≡ true }
+{
+    let to = passing_to(insns, end);
+    if to as usize >= insns.len() {
+        return to;
+    }
+    if is_inner(insns.item(to as usize)) {
+        to + 1
+    } else {
+        to
+    }
+}
+
 /// The place behind what stands behind two windows and is entered from each of them alone.
 pub fn tail_end(insns: &GapList<Insn>, end: u32, old: &[Insn], new: &[Insn]) -> u32
     requires within { end ≤ length insns.now }
@@ -43,7 +65,7 @@ pub fn tail_end(insns: &GapList<Insn>, end: u32, old: &[Insn], new: &[Insn]) -> 
     ensures tail { spec.IsTailOf old.now new.now (slice_range insns.now end result) }
 {
     if all_pass(old) && all_pass(new) {
-        passing_to(insns, end)
+        leading_to(insns, end)
     } else {
         end
     }

@@ -11,7 +11,7 @@ use rtl_func::is_jump;
 use rtx_tree::{Code, Insn, Kind, Rtx};
 
 /// Whether an instruction is neither a label nor a return.
-fn is_inner(insn: &Insn) -> bool
+pub fn is_inner(insn: &Insn) -> bool
     ensures { result ≡ spec.is_inner insn.now }
 {
     !matches!(insn.kind, Kind::Label) && !is_return(insn)

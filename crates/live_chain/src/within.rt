@@ -1,5 +1,5 @@
 //! The rows of a window's instructions, by what is live behind it.
-ghost use Rattle.std.specs.Prelude.{◌≡◌, ◌≤◌, ◌^◌, ℕ, ◌||◌, ◌&&◌, not, List, ◌++◌, length, IfOk, OnOk};
+ghost use Rattle.std.specs.Prelude.{◌≡◌, ◌≤◌, ◌^◌, ℕ, ◌||◌, ◌&&◌, not, List, ◌++◌, length, reverse, IfOk, OnOk};
 ghost use Rattle.rtx_tree.specs.RegSet.{has_reg};
 ghost use Rattle.rtx_tree.specs.declared.function.Insn.{Insn};
 ghost use Rattle.reg_rows.specs.Row.{has};
@@ -37,8 +37,9 @@ fn row_before(alloc: Global, insn: &Insn, after: &RegRow) -> Result<RegRow, Memo
     Ok(row)
 }
 
-/// The row in front of an instruction, by the rows of what follows it: the first of some, or the
-/// row behind them.
+/// The row in front of an instruction, by the rows of what follows it, the last first: that of the
+/// next, or the row behind them.
+#[tactic(auto, using(crate::proofs::WindowLaws::last_has, crate::proofs::WindowLaws::none_has))]
 fn row_in_front(
     alloc: Global,
     insn: &Insn,
@@ -49,17 +50,18 @@ fn row_in_front(
     requires behind { length behind.now ≤ 2 ^ 26 }
     ensures row { IfOk result (λ row. (reg : ℕ) → has row reg ≡
         (insns.insn_uses insn.now reg ||
-        (not (insns.insn_defines insn.now reg) && first_has rows.now behind.now reg))) }
+        (not (insns.insn_defines insn.now reg) &&
+        first_has (reverse rows.now) behind.now reg))) }
     ensures narrow { IfOk result (λ row. length row ≤ 2 ^ 26) }
 {
-    match rows {
-        [] => row_before(alloc, insn, behind),
-        [first, ..] => row_before(alloc, insn, first),
+    match rows.split_last() {
+        None => row_before(alloc, insn, behind),
+        Some((next, _)) => row_before(alloc, insn, next),
     }
 }
 
-/// Puts the rows of a window in front of those of what follows it.
-pub fn add_rows(
+/// Puts the rows of a window behind those of what follows it, the last first.
+fn add_rows(
     alloc: Global,
     window: &[Insn],
     behind: &RegRow,
@@ -67,17 +69,27 @@ pub fn add_rows(
 ) -> Result<(), Memory>
     requires behind { length behind.now ≤ 2 ^ 26 }
     requires rows { AreNarrow rows.old }
-    ensures rows { OnOk result ((after : List Insn) → AreRowsOf after (has behind.now) rows.old →
-        AreRowsOf (window.now ++ after) (has behind.now) rows.new) }
+    ensures rows { OnOk result ((after : List Insn) →
+        AreRowsOf after (has behind.now) (reverse rows.old) →
+        AreRowsOf (window.now ++ after) (has behind.now) (reverse rows.new)) }
     ensures narrow { OnOk result (AreNarrow rows.new) }
 {
     let mut at = window.len();
     while at > 0 {
         at -= 1;
         let row = row_in_front(alloc, &window[at], rows.as_slice(), behind)?;
-        rows.insert(0, row)?;
+        rows.push(row)?;
     }
     Ok(())
+}
+
+/// Some rows, the last first.
+fn turned(rows: Items<RegRow>) -> Items<RegRow>
+    ensures { result ≡ reverse rows }
+{
+    let mut vec = rows.into_vec();
+    vec.reverse();
+    Items::from_vec(vec)
 }
 
 /// The registers that are live before each instruction of two windows, one behind the other.
@@ -94,5 +106,5 @@ pub fn rows_within(
     let mut rows = Items::new(alloc);
     add_rows(alloc, window, behind, &mut rows)?;
     add_rows(alloc, front, behind, &mut rows)?;
-    Ok(rows)
+    Ok(turned(rows))
 }

@@ -96,10 +96,11 @@ pub record IsBlockTo (insns : List Insn) (from first : ℕ) (regs : List ℕ) : 
   pub passing : list_all passes (slice_range insns from first) ≡ true
   pub named : (reg : ℕ) → has_reg regs reg ≡ true → names_in (slice_range insns from first) reg ≡ true
 
--- what stands behind two windows: it leads on from each of its instructions to the next alone, and so
--- do both windows, or nothing is seen there
+-- what stands behind two windows: it is left at its end alone, by no return, and entered at its
+-- beginning alone, and each of the windows leads on from each of its instructions to the next alone,
+-- or nothing is seen there
 pub record IsTailOf (old new tail : List Insn) : Type 0 where
-  pub passing : list_all passes tail ≡ true
+  pub leading : leads_last tail ≡ true
   pub led : (tail ≡ []) ⊎ ((list_all passes old ≡ true) × (list_all passes new ≡ true))
 
 -- two windows leave a register alone, and what stands behind them asks for it

@@ -1,4 +1,4 @@
-use Rattle.std.proofs.Common.{◌≤◌, ◌++◌, List, drop, length}
+use Rattle.std.proofs.Common.{◌≤◌, ◌++◌, List, drop, length, reverse}
 use Rattle.reg_rows.specs.Row.{has}
 use Rattle.rtx_tree.specs.declared.function.Insn.{Insn}
 use Rattle.live_chain.specs.Narrow.{AreNarrow}
@@ -8,7 +8,7 @@ use Rattle.live_chain.proofs.within.add_rows.Given as goal
 abbrev pub invariant-loop-at : goal.invariant-loop-at
 invariant-loop-at l = record {
   place : l.at ≤ length l.window;
-  rows : (after : List Insn) → AreRowsOf after (has l.behind) l.fn.rows → AreRowsOf (drop l.at l.window ++ after) (has l.behind) l.rows;
+  rows : (after : List Insn) → AreRowsOf after (has l.behind) (reverse l.fn.rows) → AreRowsOf (drop l.at l.window ++ after) (has l.behind) (reverse l.rows);
   narrow : AreNarrow l.rows;
 }
 

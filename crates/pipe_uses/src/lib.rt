@@ -7,6 +7,6 @@
 #![tactic(auto)]
 
 mod copies;
-mod takes;
+mod uses;
 
-pub use takes::takes;
+pub use uses::takes;

@@ -1,6 +1,7 @@
 -- What an instruction takes is one thing, and there is a way in it.
 use Rattle.std.proofs.Common.{◌≡◌, ℕ, zero, suc, ◌+◌, ◌<◌, ◌≤◌, Bool, true, false, List, [], ◌∷◌, Option, Some, None, cond, length, refl, sym, ap, subst, ◌∙◌, arith}
-use Rattle.std.specs.Prelude.{slice_get, option_map, IfSome}
+use Rattle.std.specs.Prelude.{slice_get, option_map, IfSome, IfOk, Result, Ok, Err}
+use Rattle.plain_data.specs.declared.Memory.{Memory}
 use Rattle.std.specs.List.{AllByRecursion, position_from}
 use Rattle.std.specs.Option.{option_map_or}
 use Rattle.dfa_ways.specs.Ways.{Way, Ways, no_cycle}
@@ -97,3 +98,9 @@ by_parts p k latency ways e f =
       | Some r ↦ λ a b. ap (λ (n : ℕ). record { latency = n; ways = ways }) (sym (some_is r.latency latency a)) ∙ ap (λ (w : Ways). record { latency = r.latency; ways = w }) (sym (some_is r.ways ways b))
     ] in
     go (slice_get p.reservations k) e f
+
+-- ---- a result that is known
+
+pub takes_if : (forms : List Entry) (p : Pipeline) (i : Insn) (t : Taken) (r : Result Taken Memory) → Takes forms p i t → IfOk r (λ (taken : Taken). taken ≡ t) → IfOk r (Takes forms p i)
+takes_if forms p i t (Ok taken) is e = subst (Takes forms p i) (sym e) is
+takes_if forms p i t (Err wrong) is e = tt

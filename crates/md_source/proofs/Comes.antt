@@ -1,10 +1,10 @@
 -- What a file comes to, while its trees are gone through.
-use Rattle.std.proofs.Common.{◌≡◌, ℕ, ◌+◌, ◌<◌, ◌≤◌, List, [], ◌∷◌, ◌++◌, length, Option, Some, None, Ok, Err, refl, sym, ap, subst, ◌∙◌, append_assoc, append-nil, arith}
+use Rattle.std.proofs.Common.{◌≡◌, ℕ, false, is_some, ◌||◌, true≢false, ◌+◌, ◌<◌, ◌≤◌, List, [], ◌∷◌, ◌++◌, length, Option, Some, None, Ok, Err, refl, sym, ap, subst, ◌∙◌, append_assoc, append-nil, arith}
 use Rattle.lisp_read.specs.declared.tree.Tree.{Tree}
 use Rattle.md_source.specs.declared.trees.Gathered.{Gathered}
 use Rattle.md_source.specs.declared.refusal.SourceRefusal.{SourceRefusal}
 use Rattle.md_source.specs.declared.refusal.SourceRefusal.TheVariants as refusal
-use Rattle.md_source.specs.Include.{included_name}
+use Rattle.md_source.specs.Include.{included_name, include_some}
 use Rattle.md_source.specs.Source.{Source, Outcome, FileComes, TreesCome, DescriptionComes, in_front, text_of}
 use Rattle.rtx_tree.specs.Limit.{most_within}
 use Rattle.md_source.specs.Answers.{Refuses}
@@ -100,6 +100,19 @@ unread source within used name refusal.Include reads = by_known (text_of source 
     by_known : (known : Option (List ℕ)) → text_of source name ≡ known → FileComes source within used name (Err refusal.Include)
     by_known None is = FileComes.unknown within used name (Err refusal.Include) is
     by_known (Some text) is = absurd (reads text is)
+
+-- trees of which none includes a file stay
+kept_all : (source : Source) (within now : ℕ) (trees : List Tree) → include_some trees ≡ false → TreesCome source within now trees (Ok (record { trees = trees; used = now }))
+kept_all source within now [] is = TreesCome.none within now
+kept_all source within now (t ∷ rest) is = by_name (included_name t) refl is (λ left. kept_all source within now rest left)
+  where
+    by_name : (name : Option (List ℕ)) → included_name t ≡ name → (is_some name || include_some rest) ≡ false → (include_some rest ≡ false → TreesCome source within now rest (Ok (record { trees = rest; used = now }))) →
+        TreesCome source within now (t ∷ rest) (Ok (record { trees = t ∷ rest; used = now }))
+    by_name None none left on = TreesCome.kept within now t rest (Ok (record { trees = rest; used = now })) none (on left)
+    by_name (Some name) some left on = absurd (true≢false left)
+
+pub stays : (source : Source) (within used : ℕ) (name : List ℕ) (read : Gathered) → FileReads source used name (Ok read) → include_some read.trees ≡ false → FileComes source within used name (Ok read)
+stays source within used name read reads none = subst (λ (o : Outcome). FileComes source within used name o) (front_none (Ok read)) (starts source within used name read reads (Ok read) (kept_all source within read.used read.trees none))
 
 -- one tree less is left
 pub one_less : (t : Tree) (left rest : List Tree) (count more : ℕ) → count ≡ length left → left ≡ t ∷ rest → more + 1 ≡ count → more ≡ length rest

@@ -1,5 +1,5 @@
 -- Which names were asked for while the trees of a file are gone through, until it is read or fails.
-use Rattle.std.proofs.Common.{◌≡◌, ◌≢◌, ℕ, ◌+◌, ◌-◌, ◌<◌, ◌≤◌, List, [], ◌∷◌, ◌++◌, length, Option, Some, None, Result, Ok, Err, Vec, Bool, true, false, refl, sym, ap, subst, ◌∙◌, append_assoc, append-nil, arith, cond, true≢false}
+use Rattle.std.proofs.Common.{◌≡◌, ◌≢◌, ℕ, is_some, ◌||◌, ◌+◌, ◌-◌, ◌<◌, ◌≤◌, List, [], ◌∷◌, ◌++◌, length, Option, Some, None, Result, Ok, Err, Vec, Bool, true, false, refl, sym, ap, subst, ◌∙◌, append_assoc, append-nil, arith, cond, true≢false}
 use Rattle.std.specs.Str.{bytes_eq}
 use Rattle.std.proofs.lemmas.Slice.Eq.{bytes_eq-Decides}
 use Rattle.std.specs.declared.alloc.Global.{Global}
@@ -9,7 +9,7 @@ use Rattle.rtx_tree.specs.Limit.{most_bytes, most_within}
 use Rattle.md_source.specs.declared.trees.Gathered.{Gathered}
 use Rattle.md_source.specs.declared.refusal.SourceRefusal.{SourceRefusal}
 use Rattle.md_source.specs.declared.refusal.SourceRefusal.TheVariants as refusal
-use Rattle.md_source.specs.Include.{included_name}
+use Rattle.md_source.specs.Include.{included_name, include_some}
 use Rattle.md_source.specs.Source.{Source, FileComes, shipped_name, text_of}
 use Rattle.md_source.specs.Answers.{Agrees}
 use Rattle.md_source.specs.Faults.{own_name, FileAsks, TreesAsk, FileFaults, TreesFault, Grew, AsksBy}
@@ -113,3 +113,18 @@ fails source within used name now t left rest n before mid after front is room b
 pub finishes : (source : Source) (within used : ℕ) (name : List ℕ) (now : ℕ) (left : List Tree) (count : ℕ) (before mid : Option (List (List ℕ))) → count ≡ length left → count ≡ 0 → AsksBy (Goes source within used name now left) before mid → AsksBy (FileAsks source name) before mid
 finishes source within used name now (t ∷ rest) count before mid is none by = absurd (omega arith)
 finishes source within used name now [] count before mid is none by = (by.0, subst (FileAsks source name) (append-nil by.0) (by.1.asks [] TreesAsk.none), by.2)
+
+-- ---- trees of which none includes a file
+
+asks_none : (source : Source) (trees : List Tree) → include_some trees ≡ false → TreesAsk source trees []
+asks_none source [] is = TreesAsk.none
+asks_none source (t ∷ rest) is = by_name (included_name t) refl is (λ left. asks_none source rest left)
+  where
+    by_name : (name : Option (List ℕ)) → included_name t ≡ name → (is_some name || include_some rest) ≡ false → (include_some rest ≡ false → TreesAsk source rest []) → TreesAsk source (t ∷ rest) []
+    by_name None none left on = TreesAsk.kept t rest [] none (on left)
+    by_name (Some name) some left on = absurd (true≢false left)
+
+pub stays : (source : Source) (within used : ℕ) (name : List ℕ) (read : Gathered) (before now : Option (List (List ℕ))) → FileReads source used name (Ok read) → AsksFile before now name → include_some read.trees ≡ false → AsksBy (FileAsks source name) before now
+stays source within used name read before now reads asks none =
+    let by = starts source within used name read before now reads asks in
+    (by.0, subst (FileAsks source name) (append-nil by.0) (by.1.asks [] (asks_none source read.trees none)), by.2)

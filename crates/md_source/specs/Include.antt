@@ -1,5 +1,6 @@
 -- The directive that includes a file: GCC Internals, "Including Patterns in Machine Descriptions".
-use Rattle.std.specs.Prelude.{ℕ, List, [], ◌∷◌, Option, None, codes, if◌then◌else◌}
+use Rattle.std.specs.Prelude.{ℕ, Bool, List, [], ◌∷◌, Option, None, is_some, codes, if◌then◌else◌}
+use Rattle.std.specs.List.{list_any}
 use Rattle.lisp_read.specs.declared.tree.Tree.{Tree}
 use Rattle.lisp_read.specs.Shape.{is_word, string_of, items_of}
 
@@ -13,3 +14,7 @@ name_in _ = None
 -- a tree
 abbrev pub included_name : Tree → Option (List ℕ)
 included_name t = name_in (items_of t)
+
+-- a tree among some includes a file
+abbrev pub include_some : List Tree → Bool
+include_some trees = list_any (λ t. is_some (included_name t)) trees

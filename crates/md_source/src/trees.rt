@@ -9,7 +9,7 @@ ghost use Rattle.md_source.specs.Answers.{Agrees, Gives};
 ghost use Rattle.md_source.specs.Faults.{FileAsks, FileFaults, FaultsAt, AsksBy};
 ghost use Rattle.md_source.specs.declared.refusal.SourceRefusal.{SourceRefusal};
 
-use crate::include::included_name;
+use crate::include::{include_some, included_name};
 use crate::read::read_file;
 use crate::refusal::SourceRefusal;
 use byte_edge::Files;
@@ -26,7 +26,7 @@ pub struct Gathered {
 }
 
 /// The trees of the file of a name, as so many files within each other, after so many bytes were
-/// read.
+/// read. Where none of them includes a file, they are those that were read, and not copied.
 fn gather_from<F: Files>(
     alloc: Global,
     files: &mut F,
@@ -53,6 +53,9 @@ fn gather_from<F: Files>(
         F.fault_count files.new ≡ F.fault_count files.old }
 {
     let text = read_file(alloc, files, name, used)?;
+    if !include_some(text.trees.as_slice()) {
+        return Ok(text);
+    }
     let mut trees = Items::new(alloc);
     let mut used = text.used;
     for tree in text.trees.into_vec() {

@@ -1,15 +1,18 @@
 -- What the search comes to, and what follows a step.
-use Rattle.std.proofs.Common.{◌≡◌, ⊎_elim, inl, inr, ℕ, zero, suc, ◌+◌, ◌-◌, ◌<◌, ◌≤◌, List, length, None, sym, subst, ◌∙◌, arith}
+use Rattle.std.proofs.Common.{◌≡◌, ⊎_elim, inl, inr, ℕ, zero, suc, ◌+◌, ◌-◌, ◌<◌, ◌≤◌, List, ◌++◌, length, drop, None, sym, subst, ◌∙◌, arith}
 use Rattle.std.proofs.lemmas.Bool.{cases_lt}
 use Rattle.std.proofs.lemmas.Option.{slice_get_within}
 use Rattle.rtx_tree.specs.Limit.{most_reused}
 use Rattle.rtx_tree.specs.declared.function.Insn.{Insn}
 use Rattle.rtx_tree.specs.declared.function.Function.{Function}
+use Rattle.new_insns.specs.Replaced.{replaced}
+use Rattle.live_chain.specs.Stays.{StaysBefore}
 use Rattle.md_forms.specs.declared.form.Entry.{Entry}
 use Rattle.reuse.specs.Reuse.{RepeatsAt, NoneRepeats, IsNextRepeat, IsDeadSet, IsFirstDead, NoneDead, IsStep, Steps}
-use Rattle.reuse.specs.machine.Found.{Tried, NoneFrom, NoneUpto, IsLast, LastRepeat, AreWithin}
+use Rattle.reuse.specs.machine.Found.{Tried, NoneFrom, NoneUpto, IsLast, LastRepeat, AreWithin, AreAhead, NoneDeadBefore}
 use Rattle.reuse.specs.declared.search.Repeat.{Repeat}
 use Rattle.reuse.specs.declared.search.Span.{Span}
+use Rattle.reuse.proofs.Lists.{front_at}
 
 -- ---- the firsts of a second
 
@@ -31,6 +34,14 @@ module _ (forms : List Entry) (f : Function) (second : ℕ) where
       (λ (low : i < place). let near = r.near in absurd (omega (arith, low, near, far)))
       (λ (high : place ≤ i). none i n high r)
       (cases_lt i place)
+
+  -- nor where all stand in front of what is near enough
+  pub none_ahead : (place : ℕ) → AreAhead forms f second place → place ≤ second - most_reused → NoneFrom forms f second 0
+  none_ahead place ahead far i n from r = let near = r.near in let low = ahead i n r in absurd (omega (arith, low, near, far))
+
+  -- nor at or behind a place that they all stand in front of
+  pub none_behind : (place first : ℕ) → AreAhead forms f second place → place ≤ first → Tried forms f first second None
+  none_behind place first ahead far n r = let low = ahead first n r in absurd (omega (arith, low, far))
 
   pub none_either : (place first : ℕ) → place ≡ first + 1 → NoneFrom forms f second place → NoneUpto forms f second first → NoneFrom forms f second 0
   none_either place first is none upto i n from r = ⊎_elim
@@ -82,13 +93,13 @@ module _ (forms : List Entry) (f : Function) (span : Span) (are : AreWithin form
   }
 
 -- at first every second is within the chain
-pub all_within : (forms : List Entry) (f : Function) (end : ℕ) → end ≡ length f.insns → AreWithin forms f (record { from = 0; end = end })
-all_within forms f end is i j n r = let within = slice_get_within f.insns j r.other r.at_second in (omega arith, omega (arith, within, is))
+pub all_within : (forms : List Entry) (f : Function) (end : ℕ) → end ≡ length f.insns → AreWithin forms f (record { from = 0; end = end; firsts = end })
+all_within forms f end is i j n r =
+    let within = slice_get_within f.insns j r.other r.at_second in
+    let order = r.before in
+    (omega arith, omega (arith, within, is), omega (arith, within, is, order))
 
 -- ---- dead sets
-
-abbrev pub NoneDeadBefore : Function → ℕ → Type 0
-NoneDeadBefore f place = (other : ℕ) → other < place → IsDeadSet f other → ⊥
 
 pub dead_more : (f : Function) (place next : ℕ) → next ≡ place + 1 → NoneDeadBefore f place → (IsDeadSet f place → ⊥) → NoneDeadBefore f next
 dead_more f place next is none here other below d = ⊎_elim
@@ -107,6 +118,22 @@ dead_first f place none d = record {
       (λ (from : place ≤ other). from)
       (cases_lt other place);
 }
+
+module _ (f : Function) (first end from : ℕ) (new : List Insn) (within : first ≤ length f.insns) (stays : StaysBefore f (replaced f first end new) from) (order : from ≤ first) where
+  -- in front of where what is live has stayed no set has become dead
+  pub still_alive : NoneDeadBefore f from → NoneDeadBefore (replaced f first end new) from
+  still_alive none other below d =
+      let at = sym (front_at f.insns (new ++ drop end f.insns) other first (omega (arith, below, order)) within) ∙ d.at_place in
+      none other below (record {
+        insn = d.insn;
+        at_place = at;
+        register = d.register;
+        sets = d.sets;
+        dead = λ lives. d.dead ((stays other d.register below).0 lives);
+      })
+
+pub fewer_alive : (f : Function) (place less : ℕ) → less ≤ place → NoneDeadBefore f place → NoneDeadBefore f less
+fewer_alive f place less order none other below d = none other (omega (arith, below, order)) d
 
 -- ---- steps
 

@@ -73,7 +73,7 @@ module _ (forms : List Entry) (f : Function) (place : ℕ) (new : List Insn) (wi
 
 -- behind a reuse
 pub within_reuse : (forms : List Entry) (f : Function) (first second : ℕ) (new : Insn) (span : Span) (end : ℕ) → IsNextRepeat forms f first second new → AreWithin forms f span → end ≡ max span.end (second + 65) →
-    AreWithin forms (with_insn f second new) (record { from = second; end = end })
+    AreWithin forms (with_insn f second new) (record { from = second; end = end; firsts = end })
 within_reuse forms f first second new span end next are is a b n r =
     let at = slice_get_within f.insns second next.repeats.other next.repeats.at_second in
     let order = r.before in
@@ -82,30 +82,28 @@ within_reuse forms f first second new span end next are is a b n r =
     (λ (below : b < second).
     let old = front_too forms f second (new ∷ []) at a b n below r in
     absurd (⊎_elim (λ (over : second < b). let none : ⊥ = omega (arith, over, below) in none) (λ (same : (second ≡ b) × (a ≤ first)). let is_it = same.0 in let none : ⊥ = omega (arith, is_it, below) in none) (next.chosen a b n old)))
-    (λ (from : second ≤ b). (
-      from,
-      ⊎_elim
-          (λ (low : b < second + 65). let upto : b < end = omega (arith, low, is) in upto)
-          (λ (high : second + 65 ≤ b).
-          let old = (are a b n (behind_too forms f second (new ∷ []) at a b a b n (omega (arith, near, high)) refl refl r)).1 in
-          let upto : b < end = omega (arith, old, is) in upto)
-          (cases_lt b (second + 65)),
-    ))
+    (λ (from : second ≤ b).
+    let upto : b < end = ⊎_elim
+    (λ (low : b < second + 65). let upto : b < end = omega (arith, low, is) in upto)
+    (λ (high : second + 65 ≤ b).
+    let old = (are a b n (behind_too forms f second (new ∷ []) at a b a b n (omega (arith, near, high)) refl refl r)).1 in
+    let upto : b < end = omega (arith, old, is) in upto)
+    (cases_lt b (second + 65)) in
+    (from, upto, omega (arith, order, upto)))
     (cases_lt b second)
 
 -- behind a dead set that went
-pub within_drop : (forms : List Entry) (f : Function) (place end : ℕ) → NoneRepeats forms f → IsFirstDead f place → end ≡ place + 64 → AreWithin forms (without f place) (record { from = place; end = end })
+pub within_drop : (forms : List Entry) (f : Function) (place end : ℕ) → NoneRepeats forms f → IsFirstDead f place → end ≡ place + 64 → AreWithin forms (without f place) (record { from = place; end = end; firsts = place })
 within_drop forms f place end none dead is a b n r =
     let at = slice_get_within f.insns place dead.dead.insn dead.dead.at_place in
     let order = r.before in
     let near = r.near in
     ⊎_elim
     (λ (below : b < place). absurd (none a b n (front_too forms f place [] at a b n below r)))
-    (λ (from : place ≤ b). (
-      from,
-      ⊎_elim
-          (λ (low : a < place). let upto : b < end = omega (arith, low, near, is) in upto)
-          (λ (high : place ≤ a). absurd (none (a + 1) (b + 1) n (behind_too forms f place [] at a b (a + 1) (b + 1) n (omega (arith, high)) (omega arith) (omega arith) r)))
-          (cases_lt a place),
-    ))
+    (λ (from : place ≤ b).
+    let low : a < place = ⊎_elim
+    (λ (low : a < place). low)
+    (λ (high : place ≤ a). absurd (none (a + 1) (b + 1) n (behind_too forms f place [] at a b (a + 1) (b + 1) n (omega (arith, high)) (omega arith) (omega arith) r)))
+    (cases_lt a place) in
+    (from, omega (arith, low, near, is), low))
     (cases_lt b place)

@@ -23,12 +23,14 @@ fn is_dead_set(alloc: Global, chain: &mut LiveChain, place: u32) -> Result<bool,
     Ok(!live)
 }
 
-/// The place of the first dead set, or `None` exactly where there is none.
-pub fn first_dead(alloc: Global, chain: &mut LiveChain) -> Result<Option<u32>, Memory>
+/// The place of the first dead set, or `None` exactly where there is none. None stands in front of
+/// place `from`.
+pub fn first_dead(alloc: Global, chain: &mut LiveChain, from: u32) -> Result<Option<u32>, Memory>
+    requires { found.NoneDeadBefore chain.old from }
     ensures first { IfOk result (found.FirstDead chain.old) }
     ensures same { chain.new ≡ chain.old }
 {
-    let mut place: u32 = 0;
+    let mut place = from;
     while (place as usize) < chain.len() {
         if is_dead_set(alloc, chain, place)? {
             return Ok(Some(place));

@@ -15,6 +15,15 @@ use plain_data::{Items, Memory};
 use rtx_tree::{Function, Insn, Insns, MOST_REUSED};
 use std::alloc::Global;
 
+/// Where what a step takes up can stand.
+#[derive(Clone, Copy)]
+pub struct Sight {
+    /// Repeated values stand within.
+    pub span: Span,
+    /// No dead set stands in front of this place.
+    pub dead: u32,
+}
+
 /// So many places behind a place.
 fn past(place: u32, more: u32) -> usize
     ensures { result ≡ place + more }
@@ -30,44 +39,58 @@ fn one_insn(alloc: Global, insn: Insn) -> Result<Insns, Memory>
     Ok(insns)
 }
 
-/// Puts the instruction of a repeated value that is next at its place. Gives the span in which the
-/// seconds of others stand then.
+/// Puts the instruction of a repeated value that is next at its place. Gives where others can stand
+/// then.
 fn put(
     alloc: Global,
     desc: &Description,
     chain: &mut LiveChain,
     repeat: Repeat,
-    span: Span,
-) -> Result<Span, Memory>
+    sight: Sight,
+) -> Result<Sight, Memory>
     requires next { found.NextRepeat desc.now chain.old (Some repeat) }
-    requires within { found.AreWithin desc.now chain.old span }
-    ensures { IfOk result (λ span. found.Stepped desc.now chain.old chain.new (Some span)) }
+    requires seen { found.AreSeen desc.now chain.old sight }
+    ensures { IfOk result (λ sight. found.Stepped desc.now chain.old chain.new (Some sight)) }
 {
     let Repeat { second, new, .. } = repeat;
     let after = behind(second)?;
     let insns = one_insn(alloc, new)?;
-    let _ = chain.replace(alloc, second, after, insns)?;
+    let same = chain.replace(alloc, second, after, insns)?;
     let far = past(second, MOST_REUSED + 1);
-    let end = span.end.max(far);
-    Ok(Span { from: second, end })
+    let end = sight.span.end.max(far);
+    Ok(Sight {
+        span: Span {
+            from: second,
+            end,
+            firsts: end,
+        },
+        dead: sight.dead.min(same),
+    })
 }
 
-/// Takes the instruction at the place of the first dead set out. Gives the span in which the
-/// seconds of repeated values stand then.
+/// Takes the instruction at the place of the first dead set out. Gives where repeated values and
+/// dead sets can stand then.
 fn take(
     alloc: Global,
     desc: &Description,
     chain: &mut LiveChain,
     place: u32,
-) -> Result<Span, Memory>
+) -> Result<Sight, Memory>
     requires none { spec.NoneRepeats desc.now chain.old }
     requires first { spec.IsFirstDead chain.old place }
-    ensures { IfOk result (λ span. found.Stepped desc.now chain.old chain.new (Some span)) }
+    ensures { IfOk result (λ sight. found.Stepped desc.now chain.old chain.new (Some sight)) }
 {
     let after = behind(place)?;
-    let _ = chain.replace(alloc, place, after, Items::new(alloc))?;
+    let dead = chain.replace(alloc, place, after, Items::new(alloc))?;
     let end = past(place, MOST_REUSED);
-    Ok(Span { from: place, end })
+    Ok(Sight {
+        span: Span {
+            from: place,
+            end,
+            firsts: place as usize,
+        },
+        dead,
+    })
 }
 
 /// One step, or `None` exactly where there is none.
@@ -75,15 +98,15 @@ fn step(
     alloc: Global,
     desc: &Description,
     chain: &mut LiveChain,
-    span: Span,
-) -> Result<Option<Span>, Memory>
-    requires { found.AreWithin desc.now chain.old span }
+    sight: Sight,
+) -> Result<Option<Sight>, Memory>
+    requires { found.AreSeen desc.now chain.old sight }
     ensures { IfOk result (found.Stepped desc.now chain.old chain.new) }
 {
-    if let Some(repeat) = next_repeat(alloc, desc, chain, span)? {
-        return Ok(Some(put(alloc, desc, chain, repeat, span)?));
+    if let Some(repeat) = next_repeat(alloc, desc, chain, sight.span)? {
+        return Ok(Some(put(alloc, desc, chain, repeat, sight)?));
     }
-    match first_dead(alloc, chain)? {
+    match first_dead(alloc, chain, sight.dead)? {
         Some(place) => Ok(Some(take(alloc, desc, chain, place)?)),
         None => Ok(None),
     }
@@ -118,13 +141,18 @@ pub fn reuse(alloc: Global, desc: &Description, f: Function) -> Result<(Function
         spec.Steps forms n f g → PassKeeps f g }
 {
     let mut chain = LiveChain::of(alloc, f);
-    let mut span = Span {
-        from: 0,
-        end: chain.len(),
+    let end = chain.len();
+    let mut sight = Sight {
+        span: Span {
+            from: 0,
+            end,
+            firsts: end,
+        },
+        dead: 0,
     };
     let mut count: usize = 0;
-    while let Some(next) = step(alloc, desc, &mut chain, span)? {
-        span = next;
+    while let Some(next) = step(alloc, desc, &mut chain, sight)? {
+        sight = next;
         count = counted(count)?;
     }
     Ok((chain.into_function(alloc)?, count))

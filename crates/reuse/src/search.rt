@@ -27,11 +27,13 @@ pub struct Repeat {
     pub new: Insn,
 }
 
-/// The places from one up to another.
+/// Where repeated values stand: their seconds from one place up to another, their firsts in front of
+/// a third.
 #[derive(Clone, Copy)]
 pub struct Span {
     pub from: u32,
     pub end: usize,
+    pub firsts: usize,
 }
 
 /// The place behind a place. One past 32 bits finds no memory.
@@ -94,14 +96,40 @@ fn tried(
     }
 }
 
+/// What [`tried`] gives, where the first stands in front of a place; behind it there is none.
+fn tried_ahead(
+    alloc: Global,
+    desc: &Description,
+    chain: &mut LiveChain,
+    first: u32,
+    second: u32,
+    firsts: usize,
+) -> Result<Option<Insn>, Memory>
+    requires order { first < second }
+    requires near { second ≤ first + most_reused }
+    requires within { second < length chain.old.insns }
+    requires kept { found.KeptFrom chain.old first second }
+    requires ahead { found.AreAhead desc.now chain.old second firsts }
+    ensures repeats { IfOk result (found.Tried desc.now chain.old first second) }
+    ensures same { chain.new ≡ chain.old }
+{
+    if first as usize >= firsts {
+        return Ok(None);
+    }
+    tried(alloc, desc, chain, first, second)
+}
+
 /// The repeated value with a second whose first stands last, or `None` exactly where there is none.
+/// Such firsts stand in front of a place.
 fn last_repeat(
     alloc: Global,
     desc: &Description,
     chain: &mut LiveChain,
     second: u32,
+    firsts: usize,
 ) -> Result<Option<Repeat>, Memory>
-    requires { second < length chain.old.insns }
+    requires within { second < length chain.old.insns }
+    requires ahead { found.AreAhead desc.now chain.old second firsts }
     ensures last { IfOk result (found.LastRepeat desc.now chain.old second) }
     ensures same { chain.new ≡ chain.old }
 {
@@ -109,21 +137,24 @@ fn last_repeat(
         return Ok(None);
     }
     let least = second.saturating_sub(MOST_REUSED);
+    if firsts <= least as usize {
+        return Ok(None);
+    }
     let mut first = second;
     while first > least {
         first -= 1;
         if !is_kept(chain, first, second)? {
             return Ok(None);
         }
-        if let Some(new) = tried(alloc, desc, chain, first, second)? {
+        if let Some(new) = tried_ahead(alloc, desc, chain, first, second, firsts)? {
             return Ok(Some(Repeat { first, second, new }));
         }
     }
     Ok(None)
 }
 
-/// The repeated value that is next, or `None` exactly where there is none. The seconds stand within
-/// a span.
+/// The repeated value that is next, or `None` exactly where there is none. Repeated values stand
+/// within a span.
 pub fn next_repeat(
     alloc: Global,
     desc: &Description,
@@ -137,7 +168,7 @@ pub fn next_repeat(
     let end = span.end.min(chain.len());
     let mut second = span.from;
     while (second as usize) < end {
-        if let Some(repeat) = last_repeat(alloc, desc, chain, second)? {
+        if let Some(repeat) = last_repeat(alloc, desc, chain, second, span.firsts)? {
             return Ok(Some(repeat));
         }
         second = behind(second)?;

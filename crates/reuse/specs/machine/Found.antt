@@ -8,10 +8,11 @@ use Rattle.rtx_tree.specs.declared.function.Insn.{Insn}
 use Rattle.rtx_tree.specs.declared.function.Function.{Function}
 use Rattle.new_insns.specs.Replaced.{window}
 use Rattle.md_forms.specs.declared.form.Entry.{Entry}
-use Rattle.reuse.specs.Reuse.{source_of, is_computed, keeps, SetAgain, EquatedOverAll, RepeatsAt, NoneRepeats, IsNextRepeat, IsFirstDead, NoneDead, IsStep}
+use Rattle.reuse.specs.Reuse.{source_of, is_computed, keeps, SetAgain, EquatedOverAll, RepeatsAt, NoneRepeats, IsNextRepeat, IsDeadSet, IsFirstDead, NoneDead, IsStep}
 use Rattle.reuse.specs.declared.again.Again.{Again}
 use Rattle.reuse.specs.declared.search.Repeat.{Repeat}
 use Rattle.reuse.specs.declared.search.Span.{Span}
+use Rattle.reuse.specs.declared.pass.Sight.{Sight}
 
 -- ---- two instructions
 
@@ -81,13 +82,22 @@ abbrev pub NextRepeat : List Entry → Function → Option Repeat → Type 0
 NextRepeat forms f None = NoneRepeats forms f
 NextRepeat forms f (Some r) = IsNextRepeat forms f r.first r.second r.new
 
--- the seconds of repeated values stand within a span
+-- the seconds of repeated values stand within a span, and their firsts in front of a place
 abbrev pub AreWithin : List Entry → Function → Span → Type 0
 AreWithin forms f span =
     (first second : ℕ) (new : Insn) → RepeatsAt forms f first second new →
-    (span.from ≤ second) × (second < span.end)
+    (span.from ≤ second) × (second < span.end) × (first < span.firsts)
+
+-- the firsts of the repeated values with this second stand in front of a place
+abbrev pub AreAhead : List Entry → Function → ℕ → ℕ → Type 0
+AreAhead forms f second place =
+    (first : ℕ) (new : Insn) → RepeatsAt forms f first second new → first < place
 
 -- ---- a dead set
+
+-- none stands in front of a place
+abbrev pub NoneDeadBefore : Function → ℕ → Type 0
+NoneDeadBefore f place = (other : ℕ) → other < place → IsDeadSet f other → ⊥
 
 abbrev pub FirstDead : Function → Option ℕ → Type 0
 FirstDead f None = NoneDead f
@@ -95,7 +105,12 @@ FirstDead f (Some place) = IsFirstDead f place
 
 -- ---- a step
 
+-- repeated values stand within the span, and no dead set in front of the place
+pub record AreSeen (forms : List Entry) (f : Function) (sight : Sight) : Type 0 where
+  pub within : AreWithin forms f sight.span
+  pub alive : NoneDeadBefore f sight.dead
+
 -- one step was made, or there is none
-abbrev pub Stepped : List Entry → Function → Function → Option Span → Type 0
+abbrev pub Stepped : List Entry → Function → Function → Option Sight → Type 0
 Stepped forms f g None = (g ≡ f) × NoneRepeats forms f × NoneDead f
-Stepped forms f g (Some span) = IsStep forms f g × AreWithin forms g span
+Stepped forms f g (Some sight) = IsStep forms f g × AreSeen forms g sight

@@ -1,8 +1,9 @@
-use Rattle.std.proofs.Common.{◌≡◌, ◌∙◌, refl, rules, ap, Err}
+use Rattle.std.proofs.Common.{◌≡◌, ◌∙◌, false, refl, rules, ap, Err}
 use Rattle.std.proofs.lemmas.Result.{err_from_is_err_and}
 use Rattle.std.specs.Vec.Iter.{into_iter_items, into_iter_len}
 use Rattle.md_source.specs.declared.refusal.SourceRefusal.{SourceRefusal}
-use Rattle.md_source.proofs.Comes.{named_by, starts, keeps, includes, too_deep, refuses, finishes, unread, one_less}
+use Rattle.md_source.specs.Include.{include_some}
+use Rattle.md_source.proofs.Comes.{named_by, starts, stays, keeps, includes, too_deep, refuses, finishes, unread, one_less}
 use Rattle.md_source.proofs.Named.{are_of, first_of, rest_of, grew_read, grew_named, grew_refused, grew_within, agrees_still, same_still}
 use Rattle.md_source.proofs.Faults as faults
 use Rattle.md_source.proofs.trees.+gather_from.Goals as goal
@@ -14,6 +15,20 @@ returns-in_err-text-clause-gives g t c = λ source agrees.
 
 pub returns-in_err-text-clause-asked : goal.returns-in_err-text-clause-asked
 returns-in_err-text-clause-asked g t c = λ source agrees. grew_refused source c.args.name.now (g.F.Files.asked c.args.files.now) (g.F.Files.asked c.read_file.new.files) c.in_err-text.ensures.asks
+
+pub returns-then-not-include_some-clause-gives : goal.returns-then-not-include_some-clause-gives
+returns-then-not-include_some-clause-gives g t c = λ source agrees.
+    let none : include_some c.in_ok-text.text.trees ≡ false = search rules in
+    stays source c.args.within c.args.used c.args.name.now c.in_ok-text.text (c.in_ok-text.ensures.reads source agrees) none
+
+pub returns-then-not-include_some-clause-asked : goal.returns-then-not-include_some-clause-asked
+returns-then-not-include_some-clause-asked g t c = λ source agrees.
+    grew_named source c.args.name.now (g.F.Files.asked c.args.files.now) (g.F.Files.asked c.read_file.new.files) (grew_read source c.args.name.now (g.F.Files.asked c.args.files.now) (g.F.Files.asked c.read_file.new.files) c.in_ok-text.ensures.asks)
+
+pub returns-then-not-include_some-clause-asks : goal.returns-then-not-include_some-clause-asks
+returns-then-not-include_some-clause-asks g t c = λ source agrees.
+    let none : include_some c.in_ok-text.text.trees ≡ false = search rules in
+    faults.stays source c.args.within c.args.used c.args.name.now c.in_ok-text.text (g.F.Files.asked c.args.files.now) (g.F.Files.asked c.read_file.new.files) (c.in_ok-text.ensures.reads source agrees) c.in_ok-text.ensures.asks none
 
 pub loop-tree-init : goal.loop-tree-init
 loop-tree-init g t c =

@@ -1,10 +1,11 @@
 use Rattle.std.proofs.Common.{refl, sym, subst, ◌∙◌, arith}
 use Rattle.reuse.specs.Reuse.{NoneDead, IsFirstDead}
-use Rattle.reuse.proofs.Next.{NoneDeadBefore, dead_more, dead_past, dead_first}
+use Rattle.reuse.specs.machine.Found.{NoneDeadBefore}
+use Rattle.reuse.proofs.Next.{dead_more, dead_past, dead_first}
 use Rattle.reuse.proofs.dead.first_dead.Goals as goal
 
 pub loop-place-init : goal.loop-place-init
-loop-place-init c = record { none = λ other below d. absurd (omega (arith, below)); same = refl }
+loop-place-init c = record { none = c.requires; same = refl }
 
 pub returns-then-branch-clause-first : goal.returns-then-branch-clause-first
 returns-then-branch-clause-first c =

@@ -1,6 +1,6 @@
 -- No dead set stands in front of the place.
 use Rattle.std.proofs.Common.{◌≡◌, ◌-◌, length}
-use Rattle.reuse.proofs.Next.{NoneDeadBefore}
+use Rattle.reuse.specs.machine.Found.{NoneDeadBefore}
 use Rattle.reuse.proofs.dead.first_dead.Given as goal
 
 abbrev pub invariant-loop-place : goal.invariant-loop-place

@@ -8,7 +8,10 @@ use Rattle.reuse.proofs.pass.reuse.Goals as goal
 pub loop-chain-init : goal.loop-chain-init
 loop-chain-init c = record {
   reached = subst (Steps c.args.desc.now zero c.args.f) (sym c.of-chain.ensures) (Steps.none c.args.f);
-  within = all_within c.args.desc.now c.of-chain.result c.len.result c.len.ensures;
+  seen = record {
+    within = all_within c.args.desc.now c.of-chain.result c.len-end.result c.len-end.ensures;
+    alive = λ other below d. absurd (omega (arith, below));
+  };
 }
 
 pub loop-chain-smaller : goal.loop-chain-smaller
@@ -24,7 +27,7 @@ loop-chain-preserved c =
     let one : c.in_ok-count.count ≡ suc l.count = omega (arith, c.in_ok-count.ensures) in
     record {
       reached = subst (λ n. Steps c.args.desc.now n c.args.f c.step.new.chain) (sym one) (steps_more c.args.desc.now l.count c.args.f l.chain c.step.new.chain l.invariant.reached stepped.0);
-      within = stepped.1;
+      seen = stepped.1;
     }
 
 pub returns-clause-reused : goal.returns-clause-reused

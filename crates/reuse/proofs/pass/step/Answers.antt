@@ -1,14 +1,17 @@
 use Rattle.std.proofs.Common.{Some, sym, subst, ◌∙◌}
 use Rattle.reuse.specs.Reuse.{NoneRepeats, NoneDead}
-use Rattle.reuse.specs.machine.Found.{NextRepeat, FirstDead, AreWithin}
+use Rattle.reuse.specs.machine.Found.{NextRepeat, FirstDead, NoneDeadBefore, AreSeen}
 use Rattle.reuse.proofs.pass.step.Goals as goal
 
 pub put-requires-clause-next : goal.put-requires-clause-next
 put-requires-clause-next c =
     subst (λ f. NextRepeat c.args.desc.now f (Some c.in-Some.repeat)) (sym c.in_ok-repeat.ensures.same) (subst (NextRepeat c.args.desc.now c.args.chain.now) c.in-Some.is c.in_ok-repeat.ensures.next)
 
-pub put-requires-clause-within : goal.put-requires-clause-within
-put-requires-clause-within c = subst (λ f. AreWithin c.args.desc.now f c.args.span) (sym c.in_ok-repeat.ensures.same) c.requires
+pub put-requires-clause-seen : goal.put-requires-clause-seen
+put-requires-clause-seen c = subst (λ f. AreSeen c.args.desc.now f c.args.sight) (sym c.in_ok-repeat.ensures.same) c.requires
+
+pub first_dead-requires : goal.first_dead-requires
+first_dead-requires c = subst (λ f. NoneDeadBefore f c.args.sight.dead) (sym c.in_ok-repeat.ensures.same) c.requires.alive
 
 pub take-requires-clause-none : goal.take-requires-clause-none
 take-requires-clause-none c =

@@ -8,10 +8,13 @@ use Rattle.reuse.proofs.search.next_repeat.Goals as goal
 pub loop-second-init : goal.loop-second-init
 loop-second-init c = record { none = none_yet c.args.desc.now c.args.chain.now c.args.span c.requires; same = refl }
 
-pub last_repeat-requires : goal.last_repeat-requires
-last_repeat-requires c =
+pub last_repeat-requires-clause-within : goal.last_repeat-requires-clause-within
+last_repeat-requires-clause-within c =
     let same = ap (λ (f : Function). length f.insns) c.loop-second.invariant.same in
     omega (arith, same, c.len.ensures, c.min-end.ensures, c.loop-second-test.true)
+
+pub last_repeat-requires-clause-ahead : goal.last_repeat-requires-clause-ahead
+last_repeat-requires-clause-ahead c first new r = (subst (λ f. AreWithin c.args.desc.now f c.args.span) (sym c.loop-second.invariant.same) c.requires first c.loop-second.second new r).2
 
 pub returns-in-Some-clause-next : goal.returns-in-Some-clause-next
 returns-in-Some-clause-next c =

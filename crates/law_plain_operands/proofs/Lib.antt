@@ -1,0 +1,6 @@
+pub mod Own
+pub mod Tests
+pub mod Predicates
+pub mod Constraints
+pub mod Plain
+pub mod Members

@@ -1,11 +1,11 @@
 -- What an instruction takes is one thing, and there is a way in it.
-use Rattle.std.proofs.Common.{◌≡◌, ℕ, zero, suc, ◌+◌, ◌<◌, ◌≤◌, Bool, true, false, List, [], ◌∷◌, Option, Some, None, cond, length, refl, sym, ap, subst, ◌∙◌, arith}
+use Rattle.std.proofs.Common.{◌≡◌, ℕ, zero, suc, ◌+◌, ◌<◌, Bool, true, false, List, [], ◌∷◌, Option, Some, None, cond, length, refl, sym, ap, subst, ◌∙◌, arith}
 use Rattle.std.specs.Prelude.{slice_get, option_map, IfSome, IfOk, Result, Ok, Err}
 use Rattle.plain_data.specs.declared.Memory.{Memory}
 use Rattle.std.specs.List.{AllByRecursion, position_from}
 use Rattle.std.specs.Option.{option_map_or}
-use Rattle.dfa_ways.specs.Ways.{Way, Ways, no_cycle}
-use Rattle.law_ways.specs.Lawful.{IsWay, AreWays}
+use Rattle.dfa_ways.specs.Ways.{Ways}
+use Rattle.law_ways.specs.Lawful.{IsWay}
 use Rattle.rtx_tree.specs.declared.function.Insn.{Insn}
 use Rattle.md_forms.specs.declared.form.Entry.{Entry}
 use Rattle.md_desc.specs.declared.output.Chosen.{Chosen}

@@ -1,16 +1,22 @@
 -- The jobs of instructions: one more.
-use Rattle.std.proofs.Common.{◌≡◌, ℕ, ◌+◌, ◌<◌, ◌≤◌, List, [], ◌∷◌, ◌++◌, map, take, length, get_or, append_assoc, refl, sym, ap, ◌∙◌, arith}
-use Rattle.std.specs.List.{AllZip}
-use Rattle.std.proofs.lemmas.List.{append-nil, take_more}
-use Rattle.std.proofs.lemmas.List.Elements.{all_zip_more, length_all_zip}
+use Rattle.std.proofs.Common.{◌≡◌, ℕ, ◌+◌, ◌<◌, ◌≤◌, List, [], ◌∷◌, ◌++◌, map, take, length, get_or, append_assoc, refl, sym, ap, subst, ◌∙◌, arith}
+use Rattle.std.specs.List.{AllZip, AllByRecursion}
+use Rattle.std.proofs.lemmas.List.{append-nil, take_more, take_all, length-map}
 use Rattle.rtx_tree.specs.declared.function.Insn.{Insn}
 use Rattle.job_order.specs.declared.job.Job.{Job}
 use Rattle.region_jobs.specs.declared.taken.Taken.{Taken}
-use Rattle.region_jobs.specs.Jobs.{job_of, jobs_behind, jobs_of}
+use Rattle.region_jobs.specs.Jobs.{asks_from, job_of, jobs_behind, jobs_of}
+use Rattle.region_jobs.specs.Kept.{IsTaken}
+use Rattle.region_jobs.proofs.JobLaws.{make_jobs}
+use Rattle.job_order.specs.Jobs.{AreJobs}
+use Rattle.rtx_tree.specs.Limit.{most_scheduled}
+use Rattle.md_dfa.specs.Lawful.{AreLawful}
+use Rattle.pipe_uses.proofs.TakesLaws.{takes_lawful}
 use Rattle.md_forms.specs.declared.form.Entry.{Entry}
 use Rattle.md_dfa.specs.declared.pipeline.Pipeline.{Pipeline}
 use Rattle.pipe_uses.specs.Takes.{Takes}
 use Rattle.schedule.specs.machine.Made.{AreJobsOf}
+use Rattle.schedule.proofs.ZipLaws.{zip_more, zip_long, zip_all}
 
 abbrev pub latencies_of : List Taken → List ℕ
 latencies_of taken = map (λ (t : Taken). t.latency) taken
@@ -47,13 +53,48 @@ module _ (forms : List Entry) (p : Pipeline) (insns : List Insn) (place : ℕ) (
   pub upto_more : (jobs : List Job) (latencies : List ℕ) (t : Taken) → AreJobsUpto forms p (take place insns) jobs latencies → Takes forms p i t
       → AreJobsUpto forms p (take (place + 1) insns) (jobs ++ job_of (take place insns) latencies i t.ways ∷ []) (latencies ++ t.latency ∷ [])
   upto_more jobs latencies t old takes =
-      let long : length (take place insns) ≡ length old.taken = length_all_zip (Takes forms p) (take place insns) old.taken old.takes in
+      let long : length (take place insns) ≡ length old.taken = zip_long (Takes forms p) (take place insns) old.taken old.takes in
       let front : take (place + 1) insns ≡ take place insns ++ i ∷ [] = take_more insns place i within ∙ ap (λ (j : Insn). take place insns ++ j ∷ []) (sym is) in
       record {
         taken = old.taken ++ t ∷ [];
-        takes = all_zip_more (Takes forms p) insns old.taken place i t within is old.takes takes;
+        takes = zip_more (Takes forms p) insns old.taken place i t within is old.takes takes;
         jobs = ap (λ (js : List Job). js ++ job_of (take place insns) latencies i t.ways ∷ []) old.jobs
             ∙ (ap (λ (l : List ℕ). jobs_of (take place insns) old.taken ++ job_of (take place insns) l i t.ways ∷ []) old.latencies
             ∙ (sym (jobs_push [] [] (take place insns) old.taken i t long) ∙ ap (λ (b : List Insn). jobs_of b (old.taken ++ t ∷ [])) (sym front)));
         latencies = ap (λ (l : List ℕ). l ++ t.latency ∷ []) old.latencies ∙ sym (mapped_push (λ (u : Taken). u.latency) old.taken t);
       }
+
+-- behind the last
+pub upto_all : (forms : List Entry) (p : Pipeline) (insns : List Insn) (place : ℕ) (jobs : List Job) (latencies : List ℕ) → length insns ≤ place → AreJobsUpto forms p (take place insns) jobs latencies → AreJobsOf forms p insns jobs
+upto_all forms p insns place jobs latencies past upto =
+    let all : take place insns ≡ insns = take_all place insns past in
+    record {
+      taken = upto.taken;
+      takes = subst (λ (l : List Insn). AllZip (Takes forms p) l upto.taken) all upto.takes;
+      jobs = upto.jobs ∙ ap (λ (l : List Insn). jobs_of l upto.taken) all;
+    }
+
+-- latencies are as many as instructions
+pub upto_long : (forms : List Entry) (p : Pipeline) (insns : List Insn) (jobs : List Job) (latencies : List ℕ) → AreJobsUpto forms p insns jobs latencies → length insns ≤ length latencies
+upto_long forms p insns jobs latencies upto =
+    let long = zip_long (Takes forms p) insns upto.taken upto.takes in
+    let same : length latencies ≡ length (latencies_of upto.taken) = ap length upto.latencies in
+    let mapped : length (latencies_of upto.taken) ≡ length upto.taken = length-map upto.taken (λ (t : Taken). t.latency) in
+    omega (arith, long, same, mapped)
+
+-- the jobs can be placed
+module _ (forms : List Entry) (p : Pipeline) (lawful : AreLawful p) (insns : List Insn) (few : length insns ≤ most_scheduled) where
+  pub can_place : (taken : List Taken) → AllZip (Takes forms p) insns taken → AreJobs (jobs_of insns taken)
+  can_place taken takes = make_jobs insns taken few (zip_all (Takes forms p) IsTaken (λ i t. takes_lawful forms p i t lawful) insns taken takes)
+
+  pub are_placeable : (jobs : List Job) → AreJobsOf forms p insns jobs → AreJobs jobs
+  are_placeable jobs of = subst AreJobs (sym of.jobs) (can_place of.taken of.takes)
+
+jobs_long : (before : List Insn) (latencies : List ℕ) (insns : List Insn) (taken : List Taken) → length insns ≡ length taken → length (jobs_behind before latencies insns taken) ≡ length insns
+jobs_long before latencies [] taken same = refl
+jobs_long before latencies (i ∷ insns) [] same = absurd (omega arith)
+jobs_long before latencies (i ∷ insns) (t ∷ taken) same = let rest = jobs_long (before ++ i ∷ []) (latencies ++ t.latency ∷ []) insns taken (omega arith) in omega (arith, rest)
+
+-- jobs are as many as instructions
+pub as_many : (forms : List Entry) (p : Pipeline) (insns : List Insn) (taken : List Taken) → AllZip (Takes forms p) insns taken → length (jobs_of insns taken) ≡ length insns
+as_many forms p insns taken takes = jobs_long [] [] insns taken (zip_long (Takes forms p) insns taken takes)

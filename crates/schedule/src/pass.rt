@@ -1,13 +1,9 @@
 //! The pass over a function.
-ghost use Rattle.std.specs.Prelude.{◌≡◌, ℕ, ◌+◌, ◌<◌, ◌≤◌, ◌++◌, [], List, length, drop, IfOk, OnOk};
-ghost use Rattle.rtx_tree.specs.declared.function.Function.{Function};
-ghost use Rattle.md_forms.specs.declared.form.Entry.{Entry};
+ghost use Rattle.std.specs.Prelude.{◌≡◌, ◌+◌, ◌<◌, ◌≤◌, ◌^◌, length, IfOk};
 ghost use Rattle.md_dfa.specs.Lawful.{AreLawful};
-ghost use Rattle.md_dfa.specs.declared.pipeline.Pipeline.{Pipeline};
 ghost use Rattle.new_insns.specs.Replaced.{window};
 ghost use Rattle.schedule.specs.Schedule as spec;
-ghost use Rattle.schedule.specs.machine.Made.{LeadsFrom};
-ghost use Rattle.schedule.specs.declared.plan.CycleOf.{CycleOf};
+ghost use Rattle.schedule.specs.machine.Made.{IsDone};
 
 use crate::compare::is_put;
 use crate::plan::{CycleOf, Plan, plan_of};
@@ -54,6 +50,7 @@ fn plan_between(
     requires region { end ≡ spec.region_end chain.old place }
     requires within { end ≤ length chain.old.insns }
     ensures plan { IfOk result (spec.IsPlan desc.now pipe.now (window chain.old place end)) }
+    ensures long { IfOk result (λ plan. place + length plan.insns ≡ end) }
     ensures same { chain.new ≡ chain.old }
 {
     chain.move_gap(end)?;
@@ -73,7 +70,12 @@ fn put_region(
     end: u32,
     plan: Plan,
     cycles: Items<CycleOf>,
-) -> Result<Items<CycleOf>, Memory> {
+) -> Result<Items<CycleOf>, Memory>
+    requires order { place < end }
+    requires within { end ≤ length chain.old.insns }
+    requires few { length plan.insns < 2 ^ 32 }
+    ensures { IfOk result (IsDone chain.old place end plan cycles chain.new) }
+{
     if !is_put(alloc, chain, place, end, plan.insns.as_slice())? {
         return Ok(cycles);
     }

@@ -74,7 +74,8 @@ pub fn plan_of(
 ) -> Result<Plan, Memory>
     requires lawful { AreLawful pipe.now }
     requires few { length insns.now ≤ most_scheduled }
-    ensures { IfOk result (spec.IsPlan desc.now pipe.now insns.now) }
+    ensures plan { IfOk result (spec.IsPlan desc.now pipe.now insns.now) }
+    ensures long { IfOk result (λ plan. length plan.insns ≡ length insns.now) }
 {
     let jobs = jobs_of(alloc, desc, pipe, insns)?;
     let cycles = cycles_of(alloc, jobs.as_slice())?;

@@ -4,3 +4,7 @@ pub mod PlanLaws
 pub mod EndLaws
 pub mod PutLaws
 pub mod StepLaws
+pub mod OneOrder
+pub mod OneLaws
+pub mod KeptLaws
+pub mod DoesLaws

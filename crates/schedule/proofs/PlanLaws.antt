@@ -10,6 +10,8 @@ use Rattle.job_order.specs.Order.{AreCycles, IsOrder}
 use Rattle.law_order.specs.Ordered.{in_order}
 use Rattle.law_order.proofs.Items.{order_more}
 use Rattle.law_order.proofs.AllLate.{come_late}
+use Rattle.law_order.proofs.AllApart.{take_units}
+use Rattle.region_jobs.proofs.KeptLaws.{keep_dependences}
 use Rattle.law_order.proofs.Same.{stay_same}
 use Rattle.region_jobs.specs.Jobs.{jobs_of}
 use Rattle.md_forms.specs.declared.form.Entry.{Entry}
@@ -18,6 +20,7 @@ use Rattle.md_dfa.specs.declared.pipeline.Pipeline.{Pipeline}
 use Rattle.schedule.specs.declared.plan.CycleOf.{CycleOf}
 use Rattle.schedule.specs.declared.plan.Plan.{Plan}
 use Rattle.schedule.specs.Schedule.{with_cycles, IsPlan}
+use Rattle.schedule.specs.Kept.{IsKept, PlansKeep}
 use Rattle.schedule.specs.machine.Made.{AreJobsOf}
 use Rattle.schedule.proofs.JobLaws.{can_place, as_many}
 
@@ -73,3 +76,13 @@ module _ (forms : List Entry) (p : Pipeline) (lawful : AreLawful p) (insns : Lis
     puts = puts;
     tells = tells;
   }
+
+  -- what holds of the instructions in their new order
+  pub plan_keeps : (q : Plan) (is : IsPlan forms p insns q) → IsKept forms p insns q is
+  plan_keeps q is =
+      let are = can_place forms p lawful insns few is.taken is.takes in
+      let both = keep_dependences insns is.taken is.cycles is.order are is.placed is.ordered in
+      record { spaced = both.0; ahead = both.1; units = take_units (jobs_of insns is.taken) is.cycles are is.placed }
+
+pub plans_keep : PlansKeep
+plans_keep forms p insns q lawful few is = plan_keeps forms p lawful insns few q is

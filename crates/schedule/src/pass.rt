@@ -1,8 +1,16 @@
 //! The pass over a function.
-ghost use Rattle.std.specs.Prelude.{◌≡◌, ◌+◌, ◌<◌, ◌≤◌, ◌^◌, length, IfOk};
+ghost use Rattle.std.specs.Prelude.{◌≡◌, ◌+◌, ◌<◌, ◌≤◌, ◌^◌, List, length, IfOk};
+ghost use Rattle.rtx_tree.specs.declared.function.Function.{Function};
+ghost use Rattle.md_forms.specs.declared.form.Entry.{Entry};
 ghost use Rattle.md_dfa.specs.Lawful.{AreLawful};
+ghost use Rattle.md_dfa.specs.declared.pipeline.Pipeline.{Pipeline};
+ghost use Rattle.law_function_kept.specs.Keeps.{Keeps};
+ghost use Rattle.law_insn_replaced.specs.law_window_lines.ForLines.{MarksAreEmpty};
+ghost use Rattle.law_window_replaced.specs.Natural.{RegistersAreNatural};
 ghost use Rattle.new_insns.specs.Replaced.{window};
 ghost use Rattle.schedule.specs.Schedule as spec;
+ghost use Rattle.schedule.specs.Kept.{PlansKeep};
+ghost use Rattle.schedule.specs.declared.plan.CycleOf.{CycleOf};
 ghost use Rattle.schedule.specs.machine.Made.{IsDone};
 
 use crate::compare::is_put;
@@ -97,6 +105,19 @@ pub fn schedule(
 ) -> Result<(Function, Items<CycleOf>), Memory>
     requires { AreLawful pipe.now }
     ensures scheduled { IfOk result (λ r. spec.Scheduled desc.now pipe.now f r.1 r.0) }
+
+    // A function comes to one thing.
+    ensures one { (forms : List Entry) (pipe : Pipeline) (f g h : Function) (a b : List CycleOf) →
+        spec.Scheduled forms pipe f a g → spec.Scheduled forms pipe f b h → (a ≡ b) × (g ≡ h) }
+
+    // In each region each dependence has its weight between the cycles, and no unit is taken twice in
+    // a cycle.
+    ensures kept { PlansKeep }
+
+    // The function does what it did.
+    ensures does { (forms : List Entry) (pipe : Pipeline) (f g : Function) (a : List CycleOf) →
+        AreLawful pipe → MarksAreEmpty f → RegistersAreNatural f →
+        spec.Scheduled forms pipe f a g → Keeps f g }
 {
     let mut chain = LiveChain::of(alloc, f);
     let mut cycles = Items::new(alloc);

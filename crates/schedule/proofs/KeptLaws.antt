@@ -1,7 +1,7 @@
 -- What is kept while regions are put in order.
 use Rattle.std.proofs.Common.{◌≡◌, ℕ, ◌+◌, ◌-◌, ◌<◌, ◌≤◌, true, false, List, [], ◌∷◌, ◌++◌, take, drop, length, Some, refl, sym, ap, subst, ◌∙◌, arith}
 use Rattle.std.specs.Prelude.{slice_get}
-use Rattle.std.specs.List.{All, AllByRecursion}
+use Rattle.std.specs.List.{AllByRecursion}
 use Rattle.std.proofs.lemmas.List.Elements.{All-from_recursion, recursion_from_All}
 use Rattle.std.proofs.lemmas.List.Sorted.{All-permutation}
 use Rattle.rtx_tree.specs.declared.function.Insn.{Insn}
@@ -43,7 +43,7 @@ module _ (forms : List Entry) (p : Pipeline) where
         let own : AllByRecursion P old = all_taken P (region_end f place - place) (drop place f.insns) (all_dropped P place f.insns all) in
         recursion_from_All P q.insns (All-permutation P old q.insns (plan_same forms p lawful old few q planned.plan) (All-from_recursion P old own))
 
-    each_put : StaysPut Each
+    pub each_put : StaysPut Each
     each_put f place q planned put all =
         all_joined P (take place f.insns) (q.insns ++ drop (region_end f place) f.insns) (all_taken P place f.insns all)
         (all_joined P q.insns (drop (region_end f place) f.insns) (permuted f place q planned all) (all_dropped P (region_end f place) f.insns all))

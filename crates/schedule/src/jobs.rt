@@ -15,6 +15,7 @@ use rtx_tree::Insn;
 use std::alloc::Global;
 
 /// The jobs of the instructions of a region.
+#[tactic(auto, using(crate::proofs::JobLaws::upto_none, crate::proofs::JobLaws::upto_more, crate::proofs::JobLaws::upto_all, crate::proofs::JobLaws::upto_long, crate::proofs::JobLaws::are_placeable))]
 pub fn jobs_of(
     alloc: Global,
     desc: &Description,

@@ -39,11 +39,11 @@ jobs_push before latencies (x ∷ insns) (u ∷ taken) i t same =
 pub record AreJobsUpto (forms : List Entry) (p : Pipeline) (insns : List Insn) (jobs : List Job) (latencies : List ℕ) : Type 0 where
   pub taken : List Taken
   pub takes : AllZip (Takes forms p) insns taken
-  pub jobs : jobs ≡ jobs_of insns taken
-  pub latencies : latencies ≡ latencies_of taken
+  pub jobs_are : jobs ≡ jobs_of insns taken
+  pub latencies_are : latencies ≡ latencies_of taken
 
 pub upto_none : (forms : List Entry) (p : Pipeline) → AreJobsUpto forms p [] [] []
-upto_none forms p = record { taken = []; takes = tt; jobs = refl; latencies = refl }
+upto_none forms p = record { taken = []; takes = tt; jobs_are = refl; latencies_are = refl }
 
 mapped_push : {A B : Type 0} (f : A → B) (xs : List A) (x : A) → map f (xs ++ x ∷ []) ≡ map f xs ++ f x ∷ []
 mapped_push f [] x = refl
@@ -58,10 +58,10 @@ module _ (forms : List Entry) (p : Pipeline) (insns : List Insn) (place : ℕ) (
       record {
         taken = old.taken ++ t ∷ [];
         takes = zip_more (Takes forms p) insns old.taken place i t within is old.takes takes;
-        jobs = ap (λ (js : List Job). js ++ job_of (take place insns) latencies i t.ways ∷ []) old.jobs
-            ∙ (ap (λ (l : List ℕ). jobs_of (take place insns) old.taken ++ job_of (take place insns) l i t.ways ∷ []) old.latencies
+        jobs_are = ap (λ (js : List Job). js ++ job_of (take place insns) latencies i t.ways ∷ []) old.jobs_are
+            ∙ (ap (λ (l : List ℕ). jobs_of (take place insns) old.taken ++ job_of (take place insns) l i t.ways ∷ []) old.latencies_are
             ∙ (sym (jobs_push [] [] (take place insns) old.taken i t long) ∙ ap (λ (b : List Insn). jobs_of b (old.taken ++ t ∷ [])) (sym front)));
-        latencies = ap (λ (l : List ℕ). l ++ t.latency ∷ []) old.latencies ∙ sym (mapped_push (λ (u : Taken). u.latency) old.taken t);
+        latencies_are = ap (λ (l : List ℕ). l ++ t.latency ∷ []) old.latencies_are ∙ sym (mapped_push (λ (u : Taken). u.latency) old.taken t);
       }
 
 -- behind the last
@@ -71,14 +71,14 @@ upto_all forms p insns place jobs latencies past upto =
     record {
       taken = upto.taken;
       takes = subst (λ (l : List Insn). AllZip (Takes forms p) l upto.taken) all upto.takes;
-      jobs = upto.jobs ∙ ap (λ (l : List Insn). jobs_of l upto.taken) all;
+      jobs_are = upto.jobs_are ∙ ap (λ (l : List Insn). jobs_of l upto.taken) all;
     }
 
 -- latencies are as many as instructions
 pub upto_long : (forms : List Entry) (p : Pipeline) (insns : List Insn) (jobs : List Job) (latencies : List ℕ) → AreJobsUpto forms p insns jobs latencies → length insns ≤ length latencies
 upto_long forms p insns jobs latencies upto =
     let long = zip_long (Takes forms p) insns upto.taken upto.takes in
-    let same : length latencies ≡ length (latencies_of upto.taken) = ap length upto.latencies in
+    let same : length latencies ≡ length (latencies_of upto.taken) = ap length upto.latencies_are in
     let mapped : length (latencies_of upto.taken) ≡ length upto.taken = length-map upto.taken (λ (t : Taken). t.latency) in
     omega (arith, long, same, mapped)
 
@@ -88,7 +88,7 @@ module _ (forms : List Entry) (p : Pipeline) (lawful : AreLawful p) (insns : Lis
   can_place taken takes = make_jobs insns taken few (zip_all (Takes forms p) IsTaken (λ i t. takes_lawful forms p i t lawful) insns taken takes)
 
   pub are_placeable : (jobs : List Job) → AreJobsOf forms p insns jobs → AreJobs jobs
-  are_placeable jobs of = subst AreJobs (sym of.jobs) (can_place of.taken of.takes)
+  are_placeable jobs of = subst AreJobs (sym of.jobs_are) (can_place of.taken of.takes)
 
 jobs_long : (before : List Insn) (latencies : List ℕ) (insns : List Insn) (taken : List Taken) → length insns ≡ length taken → length (jobs_behind before latencies insns taken) ≡ length insns
 jobs_long before latencies [] taken same = refl

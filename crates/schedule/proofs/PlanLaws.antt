@@ -50,12 +50,12 @@ module _ (forms : List Entry) (p : Pipeline) (lawful : AreLawful p) (insns : Lis
   pub cycles_long : (jobs : List Job) (cycles : List ℕ) → AreJobsOf forms p insns jobs → AreCycles jobs cycles → length cycles ≡ length insns
   cycles_long jobs cycles of places =
       let are = can_place forms p lawful insns few of.taken of.takes in
-      (come_late (jobs_of insns of.taken) cycles are (subst (λ (js : List Job). AreCycles js cycles) of.jobs places)).all ∙ as_many forms p insns of.taken of.takes
+      (come_late (jobs_of insns of.taken) cycles are (subst (λ (js : List Job). AreCycles js cycles) of.jobs_are places)).all ∙ as_many forms p insns of.taken of.takes
 
   -- the order in which a plan puts instructions is one of all of them
   pub plan_same : (q : Plan) → IsPlan forms p insns q → IsPermutation insns q.insns
   plan_same q is =
-      let long = cycles_long (jobs_of insns is.taken) is.cycles (record { taken = is.taken; takes = is.takes; jobs = refl }) is.placed in
+      let long = cycles_long (jobs_of insns is.taken) is.cycles (record { taken = is.taken; takes = is.takes; jobs_are = refl }) is.placed in
       subst (IsPermutation insns) (sym is.puts) (stay_same insns is.cycles is.order long is.ordered)
 
   pub plan_long : (q : Plan) → IsPlan forms p insns q → length q.insns ≡ length insns
@@ -71,7 +71,7 @@ module _ (forms : List Entry) (p : Pipeline) (lawful : AreLawful p) (insns : Lis
     cycles = cycles;
     order = order;
     takes = of.takes;
-    placed = subst (λ (js : List Job). AreCycles js cycles) of.jobs places;
+    placed = subst (λ (js : List Job). AreCycles js cycles) of.jobs_are places;
     ordered = is;
     puts = puts;
     tells = tells;

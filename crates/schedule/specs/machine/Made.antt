@@ -20,7 +20,7 @@ pub record AreJobsOf (forms : List Entry) (pipeline : Pipeline) (insns : List In
     Type 0 where
   pub taken : List Taken
   pub takes : AllZip (Takes forms pipeline) insns taken
-  pub jobs : jobs ≡ jobs_of insns taken
+  pub jobs_are : jobs ≡ jobs_of insns taken
 
 -- instructions stand in a window's place, and their cycles come behind others
 pub record Went (f : Function) (place end : ℕ) (p : Plan) (before : List CycleOf) (g : Function) (now : List CycleOf) :

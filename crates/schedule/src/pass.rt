@@ -24,12 +24,12 @@ use rtx_tree::{Function, MOST_SCHEDULED};
 use std::alloc::Global;
 
 /// Where the region ends that begins at a place. Places past 32 bits find no memory.
-#[tactic(auto, using(crate::proofs::EndLaws::end_seen, crate::proofs::EndLaws::end_within))]
 fn region_end(chain: &mut LiveChain, place: u32) -> Result<u32, Memory>
     requires { place ≤ length chain.old.insns }
     ensures end { IfOk result (λ end. end ≡ spec.region_end chain.old place) }
     ensures within { IfOk result (λ end. end ≤ length chain.old.insns) }
     ensures from { IfOk result (λ end. place ≤ end) }
+    ensures small { IfOk result (λ end. length chain.old.insns < 2 ^ 32) }
     ensures same { chain.new ≡ chain.old }
 {
     let Ok(all) = u32::try_from(chain.len()) else {
@@ -46,7 +46,7 @@ fn region_end(chain: &mut LiveChain, place: u32) -> Result<u32, Memory>
 }
 
 /// The region from one place up to another in the order in which a pipeline takes it.
-#[tactic(auto, using(crate::proofs::EndLaws::window_few, crate::proofs::EndLaws::window_long))]
+#[tactic(auto, using(crate::proofs::EndLaws::window_long))]
 fn plan_between(
     alloc: Global,
     desc: &Description,
@@ -99,7 +99,6 @@ fn put_region(
 /// # Errors
 ///
 /// `Memory` where memory ran out.
-#[tactic(auto, using(crate::proofs::OneLaws::scheduled_one, crate::proofs::PlanLaws::plans_keep, crate::proofs::DoesLaws::schedule_does, crate::proofs::StepLaws::leads_first, crate::proofs::StepLaws::leads_past, crate::proofs::StepLaws::leads_done, crate::proofs::StepLaws::ends_there, crate::proofs::StepLaws::done_long))]
 pub fn schedule(
     alloc: Global,
     desc: &Description,

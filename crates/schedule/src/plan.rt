@@ -32,7 +32,6 @@ pub struct Plan {
 }
 
 /// The instructions at some places.
-#[tactic(auto, using(crate::proofs::PlanLaws::item_more, law_order::proofs::Items::order_none, law_order::proofs::Items::order_all))]
 fn insns_in(alloc: Global, insns: &[Insn], order: &[usize]) -> Result<Insns, Memory>
     requires { All (λ place. place < length insns.now) order.now }
     ensures { IfOk result (λ new. new ≡ in_order insns.now order.now) }
@@ -45,7 +44,6 @@ fn insns_in(alloc: Global, insns: &[Insn], order: &[usize]) -> Result<Insns, Mem
 }
 
 /// The cycles of the instructions at some places.
-#[tactic(auto, using(crate::proofs::PlanLaws::item_more, crate::proofs::PlanLaws::with_at, crate::proofs::PlanLaws::length_with, law_order::proofs::Items::order_none, law_order::proofs::Items::order_all))]
 fn cycles_in(
     alloc: Global,
     insns: &[Insn],

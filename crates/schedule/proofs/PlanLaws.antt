@@ -61,6 +61,10 @@ module _ (forms : List Entry) (p : Pipeline) (lawful : AreLawful p) (insns : Lis
   pub plan_long : (q : Plan) → IsPlan forms p insns q → length q.insns ≡ length insns
   plan_long q is = length_permutation insns q.insns (plan_same q is)
 
+  pub order_long : (jobs : List Job) (cycles order : List ℕ) (new : List Insn) → AreJobsOf forms p insns jobs → AreCycles jobs cycles → IsOrder cycles order → new ≡ in_order insns order → length new ≡ length insns
+  order_long jobs cycles order new of places is puts =
+      ap length puts ∙ length_permutation insns (in_order insns order) (stay_same insns cycles order (cycles_long jobs cycles of places) is)
+
   -- the places of an order are places of instructions
   pub order_within : (cycles order : List ℕ) → length cycles ≡ length insns → IsOrder cycles order → All (λ place. place < length insns) order
   order_within cycles order long is = λ k d h. let low = is.within k d h in omega (arith, low, long)

@@ -1,0 +1,10 @@
+pub mod ZipLaws
+pub mod JobLaws
+pub mod PlanLaws
+pub mod EndLaws
+pub mod PutLaws
+pub mod StepLaws
+pub mod OneOrder
+pub mod OneLaws
+pub mod KeptLaws
+pub mod DoesLaws

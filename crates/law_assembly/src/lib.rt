@@ -1,6 +1,6 @@
 //! The assembly of an input does what its functions do.
 //!
-//! There is no code of its own here: six calls are passed on from `func_text`, which give of an
+//! There is no code of its own here: seven calls are passed on from `func_text`, which give of an
 //! input the text of its assembly, the code of one function, the forms of its instructions, and its
 //! functions behind a pass, and of functions their assembly with its parts, and its text appended to
 //! an output, with a summary. The laws, in `proofs/Same.antt`, are of assemblies and of the code:

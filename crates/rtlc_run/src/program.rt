@@ -30,7 +30,7 @@ ghost use Rattle.rtlc_words.specs.Words as spoken;
 ghost use Rattle.rtlc_words.specs.Words.{words_of};
 ghost use Rattle.rtlc_run.specs.Answer as spec;
 ghost use Rattle.rtlc_run.specs.Shown.{line_told};
-ghost use Rattle.rtlc_run.specs.Told.{EvalComes, RecogComes, DumpComes, ToldComes};
+ghost use Rattle.rtlc_run.specs.Told.{EvalComes, RecogComes, CyclesCome, DumpComes, ToldComes};
 ghost use Rattle.rtlc_run.specs.Written.{WritesSame, WritesSameFramed, WritesWords, WritesText, HasText, IsDone};
 ghost use Rattle.rtlc_run.specs.machine.Steps.{Gives, IsOwn, InputRefused};
 ghost use Rattle.rtlc_run.specs.Answer.{ByForms, OverInput, CommandComes, Answers, IsMissing, IsMisused, reads_input, reads_files, IsKnownFor, MayBeAsked, NoneRose, ReadFails, Writes, WritesFront, IsRefused, Reports, HasCause, TellsCause, IsAnswered};
@@ -39,7 +39,7 @@ use crate::shown::line_told;
 use crate::summary::summary_of;
 use byte_edge::{Files, ReadAll, Sink, Source, read_all, write_all_of};
 use code_eval::eval_text;
-use func_image::{assembly_of, code_of, dump_of, image_of, recog_of};
+use func_image::{assembly_of, code_of, cycles_of, dump_of, image_of, recog_of};
 use md_desc::Description;
 use md_list::{ListRefusal, list};
 use md_named::{description_of, source_refused};
@@ -96,6 +96,16 @@ fn recognised(alloc: Global, description: &Description, bytes: &[u8]) -> Result<
     ensures read { result ≢ Err Refusal.ReadFault }
 {
     recog_of(alloc, description, bytes)
+}
+
+/// The cycles of the instructions of the functions among bytes.
+fn cycled(alloc: Global, description: &Description, bytes: &[u8]) -> Result<Vec<u8>, Refusal>
+    requires { length bytes.now ≤ most_bytes }
+    ensures gives { Gives result (CyclesCome description.now bytes.now) }
+    ensures own { IsOwn result }
+    ensures read { result ≢ Err Refusal.ReadFault }
+{
+    cycles_of(alloc, description, bytes)
 }
 
 /// The words of the image of the functions among bytes.
@@ -158,6 +168,7 @@ fn made(
     match told {
         Told::Lines { road } => assembled(alloc, description, *road, bytes),
         Told::Forms => recognised(alloc, description, bytes),
+        Told::Cycles => cycled(alloc, description, bytes),
         Told::Words => imaged(alloc, description, bytes),
         Told::Behind { pass } => dumped(alloc, description, *pass, bytes),
         Told::Outcomes {

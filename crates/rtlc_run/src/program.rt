@@ -504,9 +504,9 @@ fn report<E: Sink>(alloc: Global, errors: &mut E, refusal: Refusal) -> u8
     }
 }
 
-/// The whole program. `words` are those after the program's name: `asm`, `reuse`, `list`, `recog`,
-/// `dump PASS`, `eval NAME STEPS` with up to eight numbers, `make N`, `image`, or `plain`, and, but
-/// for `plain`, `--md NAME` at most once.
+/// The whole program. `words` are those after the program's name: `asm`, `reuse`, `schedule`,
+/// `list`, `recog`, `cycles`, `dump PASS`, `eval NAME STEPS` with up to eight numbers, `make N`,
+/// `image`, or `plain`, and, but for `plain`, `--md NAME` at most once.
 /// `files` are asked for a description that is named and for what it includes, `input` is read by
 /// all but `list` and `make`. The text is written to `output`, the line of a refusal to `errors`,
 /// and the exit status is given: 0, or that of the [`Refusal`].
@@ -550,10 +550,10 @@ pub fn run<F: Files, S: Source, K: Sink, E: Sink>(
         (S.fault_count input.new) (K.fault_count output.old) (K.fault_count output.new) →
         HasText known (S.left input.old) c → IsDone result }
 
-    // What the text of `asm` does, and that of `reuse`: on each road, the lines that it spells for
-    // each function do what the function does, whatever the description, where there is room for a
-    // frame of some size, which is at most 1,048,560; so they do where there is room for the frame
-    // that the function has by the description on this road.
+    // What the text of `asm` does, and that of `reuse` and of `schedule`: on each road, the lines
+    // that it spells for each function do what the function does, whatever the description, where
+    // there is room for a frame of some size, which is at most 1,048,560; so they do where there is
+    // room for the frame that the function has by the description on this road.
     ensures behaves { (name : Option (List ℕ)) (road : Road) →
         spoken.command_of (words_of words.now) ≡
         Some (commands.Over name (telling.Lines road)) →

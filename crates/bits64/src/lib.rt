@@ -13,6 +13,10 @@ ghost use Rattle.bits64.specs.Words.{sum_of, difference_of, product_of, high_sig
 ghost use Rattle.bits64.specs.Words.{DivisionOverflows, quotient_signed, quotient_unsigned, remainder_signed, remainder_unsigned};
 ghost use Rattle.bits64.specs.Words.{shifted_left, shifted_right, shifted_arithmetic, less_signed, less_unsigned};
 
+mod operator;
+
+pub use operator::{Asks, Opaque, Operator, Relation, Taking, lacks};
+
 /// How many bits of a word are meant.
 #[derive(Clone, Copy, Debug)]
 pub enum Width {

@@ -1,6 +1,6 @@
 -- What holds of each operator: its number fits its width, and goes by the low bits of its numbers, of one number where it takes one, and of a count modulo the width.
-use Rattle.std.proofs.Common.{◌≡◌, ℕ, ◌+◌, ◌*◌, ◌-◌, ◌/◌, ◌%◌, ◌^◌, ◌<◌, ◌≤◌, ◌==◌, nat_lt, Bool, true, false, refl, sym, ◌∙◌, ap, arith, List, [], ◌∷◌, slice_index_or}
-use Rattle.std.specs.Prelude.{ℤ, pos, negsuc, ◌-ℤ◌, ◌*ℤ◌, int_div, int_rem, int_lt, if◌then◌else◌, bit_and, bit_or, bit_xor, not}
+use Rattle.std.proofs.Common.{◌≡◌, ℕ, ◌+◌, ◌*◌, ◌-◌, ◌/◌, ◌%◌, ◌^◌, ◌<◌, ◌≤◌, ◌==◌, nat_lt, Bool, true, false, refl, sym, ◌∙◌, ap, arith, Option, Some, None}
+use Rattle.std.specs.Prelude.{ℤ, pos, negsuc, ◌-ℤ◌, ◌*ℤ◌, int_div, int_rem, int_lt, if◌then◌else◌, bit_and, bit_or, bit_xor, not, slice_get}
 use Rattle.std.specs.Int.{int_shr}
 use Rattle.std.proofs.Math.Nat.{add-mod, mod-mod, mod-lt, mod-le, mod-eq_of_lt, div-le_self, div-lt_iff_lt-mul}
 use Rattle.std.proofs.lemmas.Nat.{mul-mod, mul-lt, and_mod, or_mod, xor_mod, and_mask, pow_pos}
@@ -15,7 +15,7 @@ use Rattle.bits64.specs.declared.operator.Operator.{Operator}
 use Rattle.bits64.specs.declared.operator.Operator.TheVariants as op
 use Rattle.bits64.specs.declared.operator.Taking.TheVariants.{Alone, Counted}
 use Rattle.bits64.specs.Words.{bits_of, low, signed, wrapped}
-use Rattle.bits64.specs.Operators.{holds, truth, opaque_taking, opaque_index, opaque_number, taking_of, number}
+use Rattle.bits64.specs.Operators.{holds, truth, HasEvery, all_opaque, opaque_taking, opaque_index, opaque_number, taking_of, number}
 
 -- ---- numbers fit
 
@@ -234,19 +234,26 @@ opaque_few Udiv = omega arith
 opaque_few Rem = omega arith
 opaque_few Urem = omega arith
 
+pub has_every : HasEvery
+has_every Mulh = refl
+has_every Mulhu = refl
+has_every Mulhsu = refl
+has_every Div = refl
+has_every Udiv = refl
+has_every Rem = refl
+has_every Urem = refl
+
 -- each from its place
 pub opaque_at : ℕ → Opaque
-opaque_at i = slice_index_or (Mulh ∷ Mulhu ∷ Mulhsu ∷ Div ∷ Udiv ∷ Rem ∷ Urem ∷ []) i Mulh
+opaque_at i = found (slice_get all_opaque i)
+  where
+    found : Option Opaque → Opaque
+    found (Some o) = o
+    found None = Mulh
 
 pub opaque_at-index : (o : Opaque) → opaque_at (opaque_index o) ≡ o
 unfolding opaque_at
-opaque_at-index Mulh = refl
-opaque_at-index Mulhu = refl
-opaque_at-index Mulhsu = refl
-opaque_at-index Div = refl
-opaque_at-index Udiv = refl
-opaque_at-index Rem = refl
-opaque_at-index Urem = refl
+opaque_at-index o = rw (has_every o) refl
 
 pub same_opaque : (o p : Opaque) → opaque_index o ≡ opaque_index p → o ≡ p
 same_opaque o p e = sym (opaque_at-index o) ∙ ap opaque_at e ∙ opaque_at-index p

@@ -1,7 +1,7 @@
 -- Operators on numbers of a width: what each takes, where it has no value, and its number. The
 -- comments name chapters and sections of "The RISC-V Instruction Set Manual, Volume I: Unprivileged
 -- ISA".
-use Rattle.std.specs.Prelude.{ℕ, ◌-◌, ◌^◌, ◌==◌, Bool, false, not, if◌then◌else◌, List, bit_and, bit_or, bit_xor, codes}
+use Rattle.std.specs.Prelude.{◌≡◌, ℕ, ◌-◌, ◌^◌, ◌==◌, Bool, false, not, if◌then◌else◌, List, [], ◌∷◌, Some, slice_get, bit_and, bit_or, bit_xor, codes}
 use Rattle.bits64.specs.declared.Width.{Width}
 use Rattle.bits64.specs.declared.operator.Relation.{Relation}
 use Rattle.bits64.specs.declared.operator.Relation.TheVariants.{Eq, Ne, Lt, Gt, Le, Ge, Ltu, Gtu, Leu, Geu}
@@ -12,7 +12,7 @@ use Rattle.bits64.specs.declared.operator.Operator.TheVariants as op
 use Rattle.bits64.specs.declared.operator.Taking.{Taking}
 use Rattle.bits64.specs.declared.operator.Taking.TheVariants.{Alone, Pair, Counted}
 use Rattle.bits64.specs.declared.operator.Asks.{Asks}
-use Rattle.bits64.specs.declared.operator.Asks.TheVariants.{Nothing, FirstNonzero, SecondNonzero}
+use Rattle.bits64.specs.declared.operator.Asks.TheVariants.{Nothing, SecondNonzero}
 use Rattle.bits64.specs.Words.{bits_of, low, sum_of, difference_of, product_of, high_signed, high_unsigned, high_mixed, quotient_signed, quotient_unsigned, remainder_signed, remainder_unsigned, shifted_left, shifted_right, shifted_arithmetic, less_signed, less_unsigned}
 
 -- ---- comparisons ("RV32I Base Integer Instruction Set", "Conditional Branches"; "Integer
@@ -65,6 +65,10 @@ opaque_number Udiv w a b = quotient_unsigned w a b
 opaque_number Rem w a b = remainder_signed w a b
 opaque_number Urem w a b = remainder_unsigned w a b
 
+-- every one, once
+abbrev pub all_opaque : List Opaque
+all_opaque = Mulh ∷ Mulhu ∷ Mulhsu ∷ Div ∷ Udiv ∷ Rem ∷ Urem ∷ []
+
 -- the place of each among them
 abbrev pub opaque_index : Opaque → ℕ
 opaque_index Mulh = 0
@@ -74,6 +78,10 @@ opaque_index Div = 3
 opaque_index Udiv = 4
 opaque_index Rem = 5
 opaque_index Urem = 6
+
+-- each stands at its place
+abbrev pub HasEvery : Type 0
+HasEvery = (o : Opaque) → slice_get all_opaque (opaque_index o) ≡ Some o
 
 abbrev pub opaque_name : Opaque → List ℕ
 opaque_name o = (opaque_row o).name
@@ -117,8 +125,7 @@ number op.Sar w a b = shifted_arithmetic w a b
 number (op.Test r) w a b = truth (holds r w a b)
 number (op.Opaque o) w a b = opaque_number o w a b
 
--- whether two numbers of a width lack what is asked
-abbrev pub lacks : Asks → Width → ℕ → ℕ → Bool
-lacks Nothing w a b = false
-lacks FirstNonzero w a b = low w a == 0
-lacks SecondNonzero w a b = low w b == 0
+-- whether a second number lacks what is asked
+abbrev pub lacks : Asks → Width → ℕ → Bool
+lacks Nothing w b = false
+lacks SecondNonzero w b = low w b == 0

@@ -89,8 +89,6 @@ pub enum Taking {
 pub enum Asks {
     /// Nothing.
     Nothing,
-    /// That its first number is not 0.
-    FirstNonzero,
     /// That its second number is not 0.
     SecondNonzero,
 }
@@ -112,6 +110,17 @@ macro_rules! listed {
         }
     };
 }
+
+/// Every one of them, once.
+const OPAQUE: [Opaque; 7] = [
+    Opaque::Mulh,
+    Opaque::Mulhu,
+    Opaque::Mulhsu,
+    Opaque::Div,
+    Opaque::Udiv,
+    Opaque::Rem,
+    Opaque::Urem,
+];
 
 /// The row of each of them, in their order.
 static ROWS: [Row; 7] = [
@@ -145,6 +154,15 @@ impl Relation {
 }
 
 impl Opaque {
+    /// Every one, once.
+    #[tactic(auto, using(crate::proofs::Operators::has_every))]
+    pub fn all() -> &'static [Opaque]
+        ensures all { result.now ≡ spec.all_opaque }
+        ensures every { spec.HasEvery }
+    {
+        &OPAQUE
+    }
+
     fn row(self) -> Row
         ensures { row_view result ≡ spec.opaque_row self }
     {
@@ -245,13 +263,12 @@ impl Operator {
     }
 }
 
-/// Whether two numbers of a width lack what an operator asks.
-pub fn lacks(asks: Asks, w: Width, a: u64, b: u64) -> bool
-    ensures { result ≡ spec.lacks asks w a b }
+/// Whether a second number lacks what an operator asks.
+pub fn lacks(asks: Asks, w: Width, b: u64) -> bool
+    ensures { result ≡ spec.lacks asks w b }
 {
     match asks {
         Asks::Nothing => false,
-        Asks::FirstNonzero => trunc(a, w) == 0,
         Asks::SecondNonzero => trunc(b, w) == 0,
     }
 }

@@ -11,12 +11,12 @@ use Rattle.rtx_tree.specs.declared.code.Code.TheVariants as code
 use Rattle.rtl_step.specs.Value as rtl
 use Rattle.term_tree.specs.declared.head.Head.{Head}
 use Rattle.term_tree.specs.declared.head.Head.TheVariants as heads
-use Rattle.term_tree.specs.declared.head.Relation.{Relation}
-use Rattle.term_tree.specs.declared.head.Relation.TheVariants as relation
+use Rattle.bits64.specs.declared.operator.Relation.{Relation}
+use Rattle.bits64.specs.declared.operator.Relation.TheVariants as relation
 use Rattle.term_tree.specs.Tree.{Tree, width_of, own_width}
 use Rattle.term_tree.specs.Form.{same_width}
 use Rattle.term_mean.specs.Meaning.{Valuation, mean, truth, applied}
-use Rattle.term_mean.specs.Relations.{holds}
+use Rattle.bits64.specs.Operators.{holds}
 use Rattle.term_mean.specs.Stores.{Store, Stored}
 use Rattle.term_mean.specs.Sums.{constant}
 use Rattle.term_mean.specs.Less.{less_than}

@@ -20,13 +20,13 @@ use Rattle.run_memory.specs.RunMemory.{load}
 use Rattle.rtl_step.specs.Regs.{Regs, reg_value}
 use Rattle.rtl_step.specs.Value as rtl
 use Rattle.term_tree.specs.declared.head.Head.TheVariants as heads
-use Rattle.term_tree.specs.declared.head.Relation.{Relation}
-use Rattle.term_tree.specs.declared.head.Relation.TheVariants as relation
+use Rattle.bits64.specs.declared.operator.Relation.{Relation}
+use Rattle.bits64.specs.declared.operator.Relation.TheVariants as relation
 use Rattle.term_tree.specs.Tree.{Tree, width_of}
 use Rattle.term_tree.specs.Form.{narrower}
 use Rattle.term_mean.specs.Meaning.{Valuation, mean}
 use Rattle.term_mean.specs.Stores.{Store}
-use Rattle.term_mean.specs.Relations.{holds}
+use Rattle.bits64.specs.Operators.{holds}
 use Rattle.term_mean.specs.Sums.{constant, constant_in}
 use Rattle.term_mean.specs.Compared.{low_bits}
 use Rattle.term_mean.proofs.SumLaws.{mean-constant}

@@ -14,7 +14,7 @@ use Rattle.rv_text.specs.declared.action.Source.{Source}
 use Rattle.rv_text.specs.declared.action.Source.TheVariants.{Constant}
 use Rattle.rv_line.specs.Step as line
 use Rattle.term_tree.specs.declared.head.Head.TheVariants as heads
-use Rattle.term_tree.specs.declared.head.Relation.TheVariants as relation
+use Rattle.bits64.specs.declared.operator.Relation.TheVariants as relation
 use Rattle.term_tree.specs.Tree.{Tree, width_of}
 use Rattle.term_tree.specs.Form.{same_width}
 use Rattle.term_mean.specs.Meaning.{Valuation, mean}

@@ -19,7 +19,7 @@ use Rattle.rv_line.specs.declared.state.LineEnd.TheVariants as ends
 use Rattle.term_tree.specs.Tree.{Tree}
 use Rattle.term_mean.specs.Meaning.{Valuation, mean, truth}
 use Rattle.term_mean.specs.Sums.{constant}
-use Rattle.term_mean.specs.Relations.{holds}
+use Rattle.bits64.specs.Operators.{holds}
 use Rattle.term_mean.specs.Compared.{compared}
 use Rattle.term_mean.proofs.SumLaws.{mean-constant}
 use Rattle.term_mean.proofs.ComparedLaws.{mean-compared}

@@ -11,8 +11,8 @@ use Rattle.rv_text.specs.declared.action.Source.TheVariants.{Constant}
 use Rattle.rv_text.specs.declared.action.Comparison.{Comparison}
 use Rattle.rv_text.specs.declared.action.Comparison.TheVariants.{Equal, NotEqual, Less, NotLess, LessUnsigned, NotLessUnsigned}
 use Rattle.term_tree.specs.declared.head.Head.TheVariants as heads
-use Rattle.term_tree.specs.declared.head.Relation.{Relation}
-use Rattle.term_tree.specs.declared.head.Relation.TheVariants as relation
+use Rattle.bits64.specs.declared.operator.Relation.{Relation}
+use Rattle.bits64.specs.declared.operator.Relation.TheVariants as relation
 use Rattle.term_tree.specs.Tree.{Tree}
 use Rattle.term_tree.specs.Form.{same_width}
 use Rattle.term_mean.specs.Sums.{summed}

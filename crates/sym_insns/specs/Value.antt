@@ -19,6 +19,7 @@ use Rattle.rtx_tree.specs.declared.tree.Rtx.{Rtx}
 use Rattle.rtx_tree.specs.declared.tree.Rtx.TheOpen.{Rtx-F}
 use Rattle.rtx_tree.specs.declared.tree.Rtx.TheFolds.{fold-Rtx}
 use Rattle.rtl_step.specs.Value.{width_of, first_width, count_width, operator_of, alone, counting, relation_in}
+use Rattle.term_tree.specs.declared.head.Head.{Head}
 use Rattle.term_tree.specs.declared.head.Head.TheVariants as heads
 use Rattle.term_tree.specs.Tree.{Tree}
 use Rattle.term_mean.specs.Stores.{Store}
@@ -58,11 +59,11 @@ divisor_needs Nothing b = []
 divisor_needs SecondNonzero b = if is_nonzero (constant_in b) then [] else Divisor b ∷ []
 
 -- ("Conversions")
-abbrev pub converted : List Store → Code → Width → Tree → Tree
-converted stores SignExtend w a = one stores heads.Sext w a
-converted stores ZeroExtend w a = one stores heads.Zext w a
-converted stores Truncate w a = one stores heads.Trunc w a
-converted stores _ w a = a
+abbrev pub conversion_of : Code → Option Head
+conversion_of SignExtend = Some heads.Sext
+conversion_of ZeroExtend = Some heads.Zext
+conversion_of Truncate = Some heads.Trunc
+conversion_of _ = None
 
 -- ---- terms with what they need
 
@@ -89,6 +90,11 @@ of_operands stores (Some o) w a b = record {
 abbrev pub of_shifted : List Store → Option Operator → Width → Made → Made → Made
 of_shifted stores None w a b = no_value w
 of_shifted stores (Some o) w a b = of_two (term_of stores o w) a b
+
+-- ("Conversions") an operand of another width
+abbrev pub of_conversion : List Store → Option Head → Width → Made → Made
+of_conversion stores None w a = no_value w
+of_conversion stores (Some h) w a = of_one (one stores h w) a
 
 -- ("Comparison Operations") two operands of so many bits
 abbrev pub of_related : List Store → Option Relation → Width → Width → Made → Made → Made
@@ -126,7 +132,8 @@ made_of_none regs _ number name w = no_value w
 -- "Conversions": the operand is read in its own mode
 abbrev pub of_converted : List Store → Option Width → Code → Reading → Width → Made
 of_converted stores None code a w = no_value w
-of_converted stores (Some own) code a w = of_one (converted stores code w) (a.made own)
+of_converted stores (Some own) code a w =
+    of_conversion stores (conversion_of code) w (a.made own)
 
 -- an expression of one part
 abbrev pub made_of_one : List Store → Class → Code → Reading → Width → Made

@@ -13,7 +13,7 @@ use bits64::{Asks, Operator, Relation, Width};
 use plain_data::{Items, Memory};
 use rtx_tree::Code;
 use std::alloc::Global;
-use sym_state::{NeedOf, one, related, term_of};
+use sym_state::{NeedOf, related, term_of};
 use sym_term::TermMaker;
 use term_sums::{constant_of, constant_term};
 use term_tree::{Head, Measured, Term};
@@ -110,22 +110,15 @@ pub fn need_divisor(alloc: Global, asks: Asks, b: &Term, needs: &mut Needs) -> R
     }
 }
 
-/// An extension or a truncation.
-pub fn converted(
-    maker: &mut TermMaker,
-    before: &Before,
-    code: Code,
-    w: Width,
-    a: Term,
-) -> Result<Term, Memory>
-    ensures { IfOk result (λ r. tree_of r
-        ≡ spec.converted (stores_of before.now) code w (tree_of a)) }
+/// The operator of an extension or a truncation.
+pub fn conversion_of(code: Code) -> Option<Head>
+    ensures { result ≡ spec.conversion_of code }
 {
     match code {
-        Code::SignExtend => one(maker, before.alloc, before.stores, Head::Sext, w, a),
-        Code::ZeroExtend => one(maker, before.alloc, before.stores, Head::Zext, w, a),
-        Code::Truncate => one(maker, before.alloc, before.stores, Head::Trunc, w, a),
-        _ => Ok(a),
+        Code::SignExtend => Some(Head::Sext),
+        Code::ZeroExtend => Some(Head::Zext),
+        Code::Truncate => Some(Head::Trunc),
+        _ => None,
     }
 }
 

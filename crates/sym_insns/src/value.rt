@@ -16,14 +16,14 @@ ghost use Rattle.sym_insns.specs.machine.Making.{IsMade, of_relation, reading_by
 
 use crate::before::Before;
 use crate::operation::{
-    Comparison, Needs, Operation, binary, compared, converted, need_divisor, unary,
+    Comparison, Needs, Operation, binary, compared, conversion_of, need_divisor, unary,
 };
 use bits64::{Operator, Relation, Width};
 use plain_data::{Items, Memory};
 use rtl_step::{alone, counting, operator_of, relation_of, width_of};
 use rtx_tree::{Class, Code, Mode, Name, Rtx};
 use std::alloc::Global;
-use sym_state::{NeedOf, own_symbol, read, read_need};
+use sym_state::{NeedOf, one, own_symbol, read, read_need};
 use sym_term::TermMaker;
 use term_sums::constant_term;
 use term_tree::{Head, Measured, Term};
@@ -146,13 +146,11 @@ fn of_converted(
         (reading_by_mode (regs_of before.now) (stores_of before.now) a.now).width code
         (reading_by_mode (regs_of before.now) (stores_of before.now) a.now) w)) }
 {
-    match width_of(a.mode) {
-        None => no_value(before.alloc, w, needs),
-        Some(own) => {
-            let term = make(maker, before, a, own, needs)?;
-            converted(maker, before, code, w, term)
-        }
-    }
+    let (Some(head), Some(own)) = (conversion_of(code), width_of(a.mode)) else {
+        return no_value(before.alloc, w, needs);
+    };
+    let term = make(maker, before, a, own, needs)?;
+    one(maker, before.alloc, before.stores, head, w, term)
 }
 
 /// The operator of a code of one number.

@@ -1,7 +1,6 @@
 -- The step of a line that names a symbol, jumps or calls: where its needs are met it goes by the numbers of its terms, else it is stuck.
-use Rattle.std.proofs.Common.{◌≡◌, ℕ, ◌%◌, ◌^◌, ◌<◌, ◌==◌, ◌&&◌, Bool, true, false, List, [], ◌∷◌, ◌++◌, Option, Some, None, refl, sym, ◌∙◌, ap, arith, tests}
-use Rattle.std.specs.Prelude.{ℤ, if◌then◌else◌, is_some, not}
-use Rattle.std.specs.Int.{cast_unsigned, w64}
+use Rattle.std.proofs.Common.{◌≡◌, ℕ, ◌%◌, ◌==◌, ◌&&◌, Bool, true, false, List, [], ◌∷◌, ◌++◌, Option, Some, None, refl, sym, ◌∙◌, ap, arith}
+use Rattle.std.specs.Prelude.{if◌then◌else◌, is_some, not}
 use Rattle.std.proofs.Math.Nat.{mod-eq_of_lt}
 use Rattle.bits64.specs.declared.Width.TheVariants.{W64}
 use Rattle.bits64.specs.declared.operator.Relation.{Relation}
@@ -18,18 +17,15 @@ use Rattle.rv_line.specs.declared.state.RvState.{RvState}
 use Rattle.rv_line.specs.declared.state.LineEnd.TheVariants as ends
 use Rattle.term_tree.specs.Tree.{Tree}
 use Rattle.term_mean.specs.Meaning.{Valuation, mean, truth}
-use Rattle.term_mean.specs.Sums.{constant}
 use Rattle.term_mean.specs.Compared.{compared}
-use Rattle.term_mean.proofs.SumLaws.{mean-constant}
 use Rattle.term_mean.proofs.ComparedLaws.{mean-compared}
 use Rattle.sym_lines.specs.sym_state.State.{State, Symbol, own_symbol, needs_at}
 use Rattle.sym_lines.specs.Step as spec
 use Rattle.law_insn_terms.specs.Needs as needs
 use Rattle.law_insn_terms.specs.Needs.{are_met}
 use Rattle.law_insn_terms.specs.Shows.{IsOf}
-use Rattle.law_insn_terms.proofs.Values.{both_met}
 use Rattle.law_line_terms.specs.ShowsLine.{IsFirst, ShowsLine}
-use Rattle.law_line_terms.proofs.Reading.{had, register_had, read_low}
+use Rattle.law_line_terms.proofs.Reading.{had, register_had}
 use Rattle.law_line_terms.proofs.Lines.{both_had}
 use Rattle.law_line_terms.proofs.Setting.{rd_shows}
 use Rattle.law_line_terms.proofs.Steps.{sets_to, set_had, compute_needs}

@@ -4,6 +4,9 @@
 //! has, signed or unsigned as its name says, and its contract says which number it returns. Every
 //! operation is total: it answers at every word, zero divisors and shift counts past the width
 //! included, and it takes no memory.
+//!
+//! An [`Operator`] is such an operation by its name: codes, lines and terms name operators. Its
+//! number has no more bits than the width.
 #![tactic(auto)]
 
 ghost use Rattle.std.specs.Prelude.{◌≡◌, ◌+◌, ◌-◌, ◌*◌, ◌%◌, ◌^◌, ◌<◌, ◌≤◌, pos, ◌+ℤ◌, ◌-ℤ◌, ◌*ℤ◌, int_div, int_rem};

@@ -212,11 +212,11 @@ module _ (v : Valuation) (f : First) (s : State) (regs : Regs) (memory : List Me
 
   -- ---- of one part
 
-  no_one : (o : Option ℕ) → option_and_then {B = ℕ} (λ n. None) o ≡ None
+  no_one : (o : Option ℕ) → ◌≡◌ {A = Option ℕ} (option_and_then (λ n. None) o) None
   no_one None = refl
   no_one (Some n) = refl
 
-  no_two : (o p : Option ℕ) → rtl.of_two {C = ℕ} (λ (m : ℕ) (n : ℕ). None) o p ≡ None
+  no_two : (o p : Option ℕ) → ◌≡◌ {A = Option ℕ} (rtl.of_two (λ m n. None) o p) None
   no_two None p = refl
   no_two (Some m) p = no_one p
 
@@ -335,10 +335,10 @@ module _ (v : Valuation) (f : First) (s : State) (regs : Regs) (memory : List Me
   good_shift : (c : Code) → Good class.Shift c
   good_shift c = good_by class.Shift c (λ n name w. none_worth w) (λ r m a w. none_worth w) (λ r r' m m' a a' w.
       let own : Width = rtl.count_width m'.width in
-      let made : Made = spec.of_shifted s.stores (rtl.counting (rtl.operator_of c)) w (m.made w) (m'.made own) in
-      subst (λ o. IsWorth (rtl.of_two (rtl.shifted c w) o (r'.value (rtl.count_width r'.width))) made w) (sym (a.values w).value_is)
-      (subst (λ (u : Option Width). IsWorth (rtl.of_two (rtl.shifted c w) (worth v f (m.made w)) (r'.value (rtl.count_width u))) made w) (sym a'.widths)
-      (subst (λ o. IsWorth (rtl.of_two (rtl.shifted c w) (worth v f (m.made w)) o) made w) (sym (a'.values own).value_is)
+      let whole : Made = spec.of_shifted s.stores (rtl.counting (rtl.operator_of c)) w (m.made w) (m'.made own) in
+      subst (λ o. IsWorth (rtl.of_two (rtl.shifted c w) o (r'.value (rtl.count_width r'.width))) whole w) (sym (a.values w).value_is)
+      (subst (λ (u : Option Width). IsWorth (rtl.of_two (rtl.shifted c w) (worth v f (m.made w)) (r'.value (rtl.count_width u))) whole w) (sym a'.widths)
+      (subst (λ o. IsWorth (rtl.of_two (rtl.shifted c w) (worth v f (m.made w)) o) whole w) (sym (a'.values own).value_is)
       (count_worth (rtl.counting (rtl.operator_of c)) w (m.made w) (m'.made own)))))
 
   truth_worth : (p : Option Relation) (own w : Width) (m m' : Made) →
@@ -358,10 +358,10 @@ module _ (v : Valuation) (f : First) (s : State) (regs : Regs) (memory : List Me
     width_is = refl;
   }
   compare c r r' m m' a a' w (Some own) is =
-      let made : Made = spec.of_compared s.stores (Some own) c m m' w in
-      subst (λ o. IsWorth (option_and_then (λ own. rtl.of_two (rtl.compared c own) (r.value own) (r'.value own)) o) made w) (sym is)
-      (subst (λ o. IsWorth (rtl.of_two (rtl.compared c own) o (r'.value own)) made w) (sym (a.values own).value_is)
-      (subst (λ o. IsWorth (rtl.of_two (rtl.compared c own) (worth v f (m.made own)) o) made w) (sym (a'.values own).value_is)
+      let whole : Made = spec.of_compared s.stores (Some own) c m m' w in
+      subst (λ o. IsWorth (option_and_then (λ own. rtl.of_two (rtl.compared c own) (r.value own) (r'.value own)) o) whole w) (sym is)
+      (subst (λ o. IsWorth (rtl.of_two (rtl.compared c own) o (r'.value own)) whole w) (sym (a.values own).value_is)
+      (subst (λ o. IsWorth (rtl.of_two (rtl.compared c own) (worth v f (m.made own)) o) whole w) (sym (a'.values own).value_is)
       (truth_worth (rtl.relation_in (rtl.operator_of c)) own w (m.made own) (m'.made own))))
 
   good_comparison : (c : Code) → Good class.Comparison c

@@ -1,6 +1,6 @@
 //! The value of an expression.
 ghost use Rattle.std.specs.Prelude.{◌≡◌, map, option_map, ◌↔◌, IsTrue, IfSome, ◌<◌, ◌^◌};
-ghost use Rattle.bits64.specs.Operators.{taking_of};
+ghost use Rattle.bits64.specs.Operators.{asks_of, taking_of};
 ghost use Rattle.rtx_tree.specs.Code.{class_of_code};
 ghost use Rattle.rtl_step.specs.Value as spec;
 ghost use Rattle.rtl_step.specs.machine.Parts as steps;
@@ -57,13 +57,22 @@ pub fn operator_of(code: Code) -> Option<Operator>
     }
 }
 
+fn asking_nothing(operator: Operator) -> Option<Operator>
+    ensures { result ≡ spec.asking_nothing (asks_of operator) operator }
+{
+    match operator.asks() {
+        Asks::Nothing => Some(operator),
+        Asks::SecondNonzero => None,
+    }
+}
+
 /// An operator of one number that asks nothing.
 pub fn alone(operator: Operator) -> Option<Operator>
     ensures { result ≡ spec.if_alone (taking_of operator) operator }
 {
-    match (operator.taking(), operator.asks()) {
-        (Taking::Alone, Asks::Nothing) => Some(operator),
-        _ => None,
+    match operator.taking() {
+        Taking::Alone => asking_nothing(operator),
+        Taking::Pair | Taking::Counted => None,
     }
 }
 
@@ -71,9 +80,9 @@ pub fn alone(operator: Operator) -> Option<Operator>
 pub fn counting(operator: Operator) -> Option<Operator>
     ensures { result ≡ spec.if_counted (taking_of operator) operator }
 {
-    match (operator.taking(), operator.asks()) {
-        (Taking::Counted, Asks::Nothing) => Some(operator),
-        _ => None,
+    match operator.taking() {
+        Taking::Counted => asking_nothing(operator),
+        Taking::Alone | Taking::Pair => None,
     }
 }
 

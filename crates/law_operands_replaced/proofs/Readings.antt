@@ -129,22 +129,23 @@ low_count W64 W16 n = omega arith
 low_count W64 W32 n = omega arith
 low_count W64 W64 n = omega arith
 
+-- an operator, if there is one, goes by the low bits of a count
+abbrev GoesByLow : Width → Width → ℕ → ℕ → Option Operator → Type 0
+GoesByLow w v a n o = option_map (λ o. number o w a (low v n)) o ≡ option_map (λ o. number o w a n) o
+
 shifted_low : (c : Code) (w v : Width) (a n : ℕ) → shifted c w a (low v n) ≡ shifted c w a n
 shifted_low c w v a n = by (operator_of c)
   where
-    abbrev Alike : Option Operator → Type 0
-    Alike o = option_map (λ o. number o w a (low v n)) o ≡ option_map (λ o. number o w a n) o
-
-    by_asks : (q : Asks) (o : Operator) → taking_of o ≡ Counted → Alike (asking_nothing q o)
+    by_asks : (q : Asks) (o : Operator) → taking_of o ≡ Counted → GoesByLow w v a n (asking_nothing q o)
     by_asks Nothing o is = ap Some (counted o w a (low v n) n is (low_count w v n))
     by_asks SecondNonzero o is = refl
 
-    by_taking : (t : Taking) (o : Operator) → taking_of o ≡ t → Alike (if_counted t o)
+    by_taking : (t : Taking) (o : Operator) → taking_of o ≡ t → GoesByLow w v a n (if_counted t o)
     by_taking Alone o is = refl
     by_taking Pair o is = refl
     by_taking Counted o is = by_asks (asks_of o) o is
 
-    by : (o : Option Operator) → Alike (counting o)
+    by : (o : Option Operator) → GoesByLow w v a n (counting o)
     by None = refl
     by (Some o) = by_taking (taking_of o) o refl
 

@@ -12,13 +12,13 @@ ghost use Rattle.sym_state.specs.Views.{need_of};
 ghost use Rattle.sym_state.specs.machine.Places.{listed};
 ghost use Rattle.sym_insns.specs.Value as spec;
 ghost use Rattle.sym_insns.specs.Value.{made_of};
-ghost use Rattle.sym_insns.specs.machine.Making.{IsMade, of_relation, reading_by_mode, regs_of, stores_of};
+ghost use Rattle.sym_insns.specs.machine.Making.{IsMade, reading_by_mode, regs_of, stores_of};
 
 use crate::before::Before;
 use crate::operation::{
     Comparison, Needs, Operation, binary, compared, conversion_of, need_divisor, unary,
 };
-use bits64::{Operator, Relation, Width};
+use bits64::{Operator, Width};
 use plain_data::{Items, Memory};
 use rtl_step::{alone, counting, operator_of, relation_of, width_of};
 use rtx_tree::{Class, Code, Mode, Name, Rtx};
@@ -296,92 +296,6 @@ fn compared_with(
     compared(maker, before, comparison, first, second)
 }
 
-/// An operator's two operands.
-#[cycle(make)]
-fn of_operator(
-    maker: &mut TermMaker,
-    before: &Before,
-    operator: Option<Operator>,
-    a: &Rtx,
-    b: &Rtx,
-    w: Width,
-    needs: &mut Needs,
-) -> Result<Term, Memory>
-    ensures { IfOk result (λ r. IsMade needs.old needs.new (tree_of r)
-        (spec.of_operands (stores_of before.now) operator w
-        (made_of (regs_of before.now) (stores_of before.now) a.now w)
-        (made_of (regs_of before.now) (stores_of before.now) b.now w))) }
-{
-    let Some(operator) = operator else {
-        return no_value(before.alloc, w, needs);
-    };
-    let first = make(maker, before, a, w, needs)?;
-    let operation = Operation {
-        operator,
-        operand: w,
-        width: w,
-    };
-    binary_with(maker, before, operation, b, first, needs)
-}
-
-/// A shift's operand and count.
-#[cycle(make)]
-fn of_shifted(
-    maker: &mut TermMaker,
-    before: &Before,
-    operator: Option<Operator>,
-    a: &Rtx,
-    b: &Rtx,
-    w: Width,
-    needs: &mut Needs,
-) -> Result<Term, Memory>
-    ensures { IfOk result (λ r. IsMade needs.old needs.new (tree_of r)
-        (spec.of_shifted (stores_of before.now) operator w
-        (made_of (regs_of before.now) (stores_of before.now) a.now w)
-        (made_of (regs_of before.now) (stores_of before.now) b.now
-        (count_width (step.width_of (out-Rtx b.now).mode))))) }
-{
-    let Some(operator) = operator else {
-        return no_value(before.alloc, w, needs);
-    };
-    let first = make(maker, before, a, w, needs)?;
-    let operation = Operation {
-        operator,
-        operand: count_width_of(b),
-        width: w,
-    };
-    shift_with(maker, before, operation, b, first, needs)
-}
-
-/// A comparison's operands, which are read in one width.
-#[cycle(make)]
-fn of_relation(
-    maker: &mut TermMaker,
-    before: &Before,
-    relation: Option<Relation>,
-    a: &Rtx,
-    b: &Rtx,
-    w: Width,
-    needs: &mut Needs,
-) -> Result<Term, Memory>
-    ensures { IfOk result (λ r. IsMade needs.old needs.new (tree_of r)
-        (of_relation (stores_of before.now)
-        (first_width (step.width_of (out-Rtx a.now).mode) (step.width_of (out-Rtx b.now).mode))
-        relation (made_of (regs_of before.now) (stores_of before.now) a.now)
-        (made_of (regs_of before.now) (stores_of before.now) b.now) w)) }
-{
-    let (Some(relation), Some(operand)) = (relation, own_width(a, b)) else {
-        return no_value(before.alloc, w, needs);
-    };
-    let first = make(maker, before, a, operand, needs)?;
-    let comparison = Comparison {
-        relation,
-        operand,
-        width: w,
-    };
-    compared_with(maker, before, comparison, b, first, needs)
-}
-
 /// An expression of two parts; one of more has no value.
 #[cycle(make)]
 fn made_of_parts(
@@ -398,9 +312,45 @@ fn made_of_parts(
 {
     match parts {
         [a, b] => match code.class() {
-            Class::Binary => of_operator(maker, before, operator_of(code), a, b, w, needs),
-            Class::Shift => of_shifted(maker, before, counting_of(code), a, b, w, needs),
-            Class::Comparison => of_relation(maker, before, relation_of(code), a, b, w, needs),
+            Class::Binary => match operator_of(code) {
+                None => no_value(before.alloc, w, needs),
+                Some(operator) => {
+                    let first = make(maker, before, a, w, needs)?;
+                    let operation = Operation {
+                        operator,
+                        operand: w,
+                        width: w,
+                    };
+                    binary_with(maker, before, operation, b, first, needs)
+                }
+            },
+            Class::Shift => match counting_of(code) {
+                None => no_value(before.alloc, w, needs),
+                Some(operator) => {
+                    let first = make(maker, before, a, w, needs)?;
+                    let operation = Operation {
+                        operator,
+                        operand: count_width_of(b),
+                        width: w,
+                    };
+                    shift_with(maker, before, operation, b, first, needs)
+                }
+            },
+            Class::Comparison => match own_width(a, b) {
+                None => no_value(before.alloc, w, needs),
+                Some(operand) => match relation_of(code) {
+                    None => no_value(before.alloc, w, needs),
+                    Some(relation) => {
+                        let first = make(maker, before, a, operand, needs)?;
+                        let comparison = Comparison {
+                            relation,
+                            operand,
+                            width: w,
+                        };
+                        compared_with(maker, before, comparison, b, first, needs)
+                    }
+                },
+            },
             _ => no_value(before.alloc, w, needs),
         },
         [] => no_value(before.alloc, w, needs),

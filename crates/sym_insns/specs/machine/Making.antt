@@ -1,8 +1,7 @@
 -- How the code makes a term: the needs that it meets are put behind those met before. What the
 -- code's own types are in the words of the definitions.
-use Rattle.std.specs.Prelude.{◌≡◌, List, [], ◌∷◌, ◌++◌, map, Option, Some, None}
+use Rattle.std.specs.Prelude.{◌≡◌, List, [], ◌∷◌, ◌++◌, map, Option, Some}
 use Rattle.bits64.specs.declared.Width.{Width}
-use Rattle.bits64.specs.declared.operator.Relation.{Relation}
 use Rattle.rtx_tree.specs.declared.code.Mode.{Mode}
 use Rattle.rtx_tree.specs.declared.tree.Rtx.{Rtx, out-Rtx}
 use Rattle.rtl_step.specs.Value.{width_of}
@@ -16,7 +15,7 @@ use Rattle.sym_state.specs.Views.{arg_of, call_of, changed_of, need_of}
 use Rattle.sym_state.specs.declared.state.NeedOf.{NeedOf}
 use Rattle.sym_state.specs.declared.state.SymArg.{SymArg}
 use Rattle.sym_state.specs.declared.state.SymCall.{SymCall}
-use Rattle.sym_insns.specs.Value.{Made, Reading, no_value, of_related, made_of}
+use Rattle.sym_insns.specs.Value.{Made, Reading, made_of}
 use Rattle.sym_insns.specs.Effects as spec
 use Rattle.sym_insns.specs.declared.before.Before.{Before}
 use Rattle.sym_insns.specs.declared.effect.EffectOf.{EffectOf}
@@ -40,12 +39,6 @@ pub record IsMade (before after : List NeedOf) (term : Tree) (made : Made) : Typ
 abbrev pub at_place : Made → Width → Made
 at_place address w =
     record { term = address.term; needs = address.needs ++ Access address.term w ∷ [] }
-
--- two operands of a comparison that are read in one width
-abbrev pub of_relation : List Store → Option Width → Option Relation → (Width → Made) →
-    (Width → Made) → Width → Made
-of_relation stores None relation a b w = no_value w
-of_relation stores (Some own) relation a b w = of_related stores relation own w (a own) (b own)
 
 -- an expression as its outside reads it, by its own mode and what is made of it
 abbrev pub reading_by_mode : List Changed → List Store → Rtx → Reading

@@ -1,9 +1,8 @@
 -- Extensions and truncations of registers, copies, and the complement.
-use Rattle.std.proofs.Common.{pos, refl}
+use Rattle.std.proofs.Common.{refl}
 use Rattle.bits64.specs.declared.Width.TheVariants.{W8, W16, W32, W64}
 use Rattle.bits64.specs.declared.operator.Operator.TheVariants as operators
 use Rattle.rtx_tree.specs.declared.code.Code.TheVariants as code
-use Rattle.rv_text.specs.declared.action.Source.TheVariants.{Immediate, Constant}
 use Rattle.term_mean.specs.Masks.{cut_8, cut_16, cut_32, made_64}
 use Rattle.law_plain_terms.specs.Rows.{Complements, ExtendsBy, ShiftsExtend, Truncates}
 

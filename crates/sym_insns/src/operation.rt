@@ -71,7 +71,9 @@ pub fn binary(
         (tree_of b)) }
 {
     let Operation {
-        operator, width, ..
+        operator,
+        width,
+        ..
     } = operation;
     term_of(maker, before.alloc, before.stores, operator, width, a, b)
 }

@@ -55,7 +55,9 @@ fn value_of(
     let a = source(maker, step.alloc, regs, step.line, computation.left)?;
     let b = source(maker, step.alloc, regs, step.line, computation.right)?;
     let Computation {
-        operator, width, ..
+        operator,
+        width,
+        ..
     } = computation;
     computed(maker, step.alloc, operator, width, &a, &b)
 }

@@ -1,10 +1,10 @@
 -- Lines of the table: rd is one of 32 registers.
-use Rattle.std.proofs.Common.{◌≡◌, ℕ, zero, suc, ◌^◌, ◌<◌, nat_lt, ◌&&◌, Bool, true, false, List, [], ◌∷◌, length, Option, Some, None, refl, sym, ◌∙◌, ap, subst, arith}
+use Rattle.std.proofs.Common.{◌≡◌, ℕ, zero, suc, ◌<◌, Bool, true, false, List, [], ◌∷◌, length, Option, Some, None, refl, subst, arith}
 use Rattle.std.specs.Prelude.{if◌then◌else◌, is_some, option_and_then, slice_get, bytes_eq, nat_eq}
 use Rattle.std.proofs.lemmas.Bool.Decides.{nat_tests}
 use Rattle.rtx_tree.specs.Registers.{reg_names}
 use Rattle.rv_text.specs.Lines.{bare, put, filled, has_all, same_line, is_of_row, action_of, register_text}
-use Rattle.rv_text.specs.Table.{Row, table, find_row, row_named}
+use Rattle.rv_text.specs.Table.{Row, row_named}
 use Rattle.rv_text.specs.declared.action.Action.{Action}
 use Rattle.rv_text.specs.declared.line.Line.{Line}
 use Rattle.rv_text.specs.declared.operand.Operand.{Operand}

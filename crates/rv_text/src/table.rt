@@ -154,24 +154,48 @@ static ROWS: [Row; 86] = [
     // M "Multiplication Operations" and "Division Operations"
     row!("mul", RD_RS_RT, compute!(Mul, W64, First, Second)),
     row!("mulh", RD_RS_RT, compute!(Opaque(Mulh), W64, First, Second)),
-    row!("mulhsu", RD_RS_RT, compute!(Opaque(Mulhsu), W64, First, Second)),
-    row!("mulhu", RD_RS_RT, compute!(Opaque(Mulhu), W64, First, Second)),
+    row!(
+        "mulhsu",
+        RD_RS_RT,
+        compute!(Opaque(Mulhsu), W64, First, Second)
+    ),
+    row!(
+        "mulhu",
+        RD_RS_RT,
+        compute!(Opaque(Mulhu), W64, First, Second)
+    ),
     row!("div", RD_RS_RT, compute!(Opaque(Div), W64, First, Second)),
     row!("divu", RD_RS_RT, compute!(Opaque(Udiv), W64, First, Second)),
     row!("rem", RD_RS_RT, compute!(Opaque(Rem), W64, First, Second)),
     row!("remu", RD_RS_RT, compute!(Opaque(Urem), W64, First, Second)),
     row!("mulw", RD_RS_RT, compute!(Mul, W32, First, Second)),
     row!("divw", RD_RS_RT, compute!(Opaque(Div), W32, First, Second)),
-    row!("divuw", RD_RS_RT, compute!(Opaque(Udiv), W32, First, Second)),
+    row!(
+        "divuw",
+        RD_RS_RT,
+        compute!(Opaque(Udiv), W32, First, Second)
+    ),
     row!("remw", RD_RS_RT, compute!(Opaque(Rem), W32, First, Second)),
-    row!("remuw", RD_RS_RT, compute!(Opaque(Urem), W32, First, Second)),
+    row!(
+        "remuw",
+        RD_RS_RT,
+        compute!(Opaque(Urem), W32, First, Second)
+    ),
     // RV32I and RV64I "Integer Register-Immediate Instructions"
     row!("addi", RD_RS_SHORT, compute!(Add, W64, First, Immediate)),
     row!("andi", RD_RS_SHORT, compute!(And, W64, First, Immediate)),
     row!("ori", RD_RS_SHORT, compute!(Ior, W64, First, Immediate)),
     row!("xori", RD_RS_SHORT, compute!(Xor, W64, First, Immediate)),
-    row!("slti", RD_RS_SHORT, compute!(Test(Lt), W64, First, Immediate)),
-    row!("sltiu", RD_RS_SHORT, compute!(Test(Ltu), W64, First, Immediate)),
+    row!(
+        "slti",
+        RD_RS_SHORT,
+        compute!(Test(Lt), W64, First, Immediate)
+    ),
+    row!(
+        "sltiu",
+        RD_RS_SHORT,
+        compute!(Test(Ltu), W64, First, Immediate)
+    ),
     row!("addiw", RD_RS_SHORT, compute!(Add, W32, First, Immediate)),
     row!("slli", RD_RS_COUNT64, compute!(Shl, W64, First, Immediate)),
     row!("srli", RD_RS_COUNT64, compute!(Shr, W64, First, Immediate)),

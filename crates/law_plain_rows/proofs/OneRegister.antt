@@ -1,6 +1,6 @@
 -- Rows of one register: the negative, the complement, extensions and truncations by one line, and
 -- tests for 0; and rows of register zero and another.
-use Rattle.std.proofs.Common.{◌≡◌, ℕ, suc, pos, negsuc, [], ◌∷◌, ◌-◌, ◌^◌, Some, refl}
+use Rattle.std.proofs.Common.{◌≡◌, ℕ, suc, pos, [], ◌∷◌, Some, refl}
 use Rattle.bits64.specs.declared.Width.{Width}
 use Rattle.bits64.specs.declared.Width.TheVariants.{W8, W16, W32, W64}
 use Rattle.bits64.specs.declared.operator.Operator.TheVariants as operators
@@ -10,7 +10,6 @@ use Rattle.rtx_tree.specs.declared.code.Code.TheVariants as code
 use Rattle.rtx_tree.specs.declared.code.Mode.{Mode}
 use Rattle.rtx_tree.specs.declared.code.Mode.TheVariants.{Void, QI, HI, SI, DI}
 use Rattle.rtl_step.specs.Value.{width_of}
-use Rattle.rv_text.specs.declared.action.Source.TheVariants.{First, Second, Immediate, Constant}
 use Rattle.term_tree.specs.Tree as trees
 use Rattle.term_tree.specs.Tree.{Tree}
 use Rattle.term_mean.specs.Sums.{constant}

@@ -1,12 +1,11 @@
 -- Rows of one register whose text has two lines: extensions by two shifts, and tests for not greater
 -- than 0. What the second line leaves is a row; what the first leaves is within the limit.
-use Rattle.std.proofs.Common.{◌≡◌, ℕ, [], refl}
+use Rattle.std.proofs.Common.{◌≡◌, ℕ, refl}
 use Rattle.bits64.specs.declared.Width.TheVariants.{W8, W16, W32, W64}
 use Rattle.bits64.specs.declared.operator.Operator.TheVariants as operators
 use Rattle.bits64.specs.declared.operator.Relation.TheVariants as relation
 use Rattle.rtx_tree.specs.declared.code.Code.TheVariants as code
 use Rattle.rtx_tree.specs.declared.code.Mode.TheVariants.{QI, HI, SI, DI}
-use Rattle.rv_text.specs.declared.action.Source.TheVariants.{Immediate}
 use Rattle.term_tree.specs.Tree as trees
 use Rattle.term_tree.specs.Tree.{Tree}
 use Rattle.term_mean.specs.Sums.{constant}

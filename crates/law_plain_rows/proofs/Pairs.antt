@@ -10,7 +10,6 @@ use Rattle.rtx_tree.specs.declared.code.Code.TheVariants as code
 use Rattle.rtx_tree.specs.declared.code.Mode.{Mode}
 use Rattle.rtx_tree.specs.declared.code.Mode.TheVariants.{SI, DI}
 use Rattle.rtl_step.specs.Value.{width_of}
-use Rattle.rv_text.specs.declared.action.Source.TheVariants.{First, Constant}
 use Rattle.term_tree.specs.declared.head.Head.TheVariants as heads
 use Rattle.term_tree.specs.declared.head.Extension.{Extension}
 use Rattle.term_tree.specs.declared.head.Extension.TheVariants.{Zero, Sign}

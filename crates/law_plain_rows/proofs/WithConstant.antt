@@ -11,7 +11,6 @@ use Rattle.rtx_tree.specs.declared.code.Code.TheVariants as code
 use Rattle.rtx_tree.specs.declared.code.Mode.{Mode}
 use Rattle.rtx_tree.specs.declared.code.Mode.TheVariants.{Void, SI, DI}
 use Rattle.rtl_step.specs.Value.{width_of}
-use Rattle.rv_text.specs.declared.action.Source.TheVariants.{Immediate}
 use Rattle.term_tree.specs.declared.head.Head.{Head}
 use Rattle.term_tree.specs.declared.head.Head.TheVariants as heads
 use Rattle.term_tree.specs.Tree as trees

@@ -3,7 +3,7 @@
 use Rattle.std.specs.Prelude.{ℕ, List, codes, Option, Some, None, if◌then◌else◌}
 use Rattle.std.specs.Str.{bytes_eq}
 use Rattle.pass_name.specs.declared.pass.Pass.{Pass}
-use Rattle.pass_name.specs.declared.pass.Pass.TheVariants.{Read, Lower, Reuse, Combine, Split1, Reload, Frame, Split2, Peephole2, Output}
+use Rattle.pass_name.specs.declared.pass.Pass.TheVariants.{Read, Lower, Reuse, Combine, Split1, Reload, Frame, Split2, Peephole2, Schedule, Output}
 
 abbrev pub pass_name : Pass → List ℕ
 pass_name Read = codes "read"
@@ -15,6 +15,7 @@ pass_name Reload = codes "reload"
 pass_name Frame = codes "frame"
 pass_name Split2 = codes "split2"
 pass_name Peephole2 = codes "peephole2"
+pass_name Schedule = codes "schedule"
 pass_name Output = codes "output"
 
 -- the pass of the usual road with a name behind which a function can be shown

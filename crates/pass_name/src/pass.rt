@@ -23,6 +23,8 @@ pub enum Pass {
     Split2,
     /// Windows of the machine's instructions replaced by peepholes.
     Peephole2,
+    /// Instructions of a region in the order in which a pipeline takes them soonest.
+    Schedule,
     /// The assembly text.
     Output,
 }
@@ -42,6 +44,7 @@ impl Pass {
             Pass::Frame => "frame",
             Pass::Split2 => "split2",
             Pass::Peephole2 => "peephole2",
+            Pass::Schedule => "schedule",
             Pass::Output => "output",
         }
     }

@@ -11,6 +11,8 @@ pub enum Road {
     Usual,
     /// Those, and values that are used again before pairs are combined.
     Reusing,
+    /// Those of the usual road, and instructions put in order at its end.
+    Scheduled,
 }
 
 static USUAL: [Pass; 8] = [
@@ -36,6 +38,18 @@ static REUSING: [Pass; 9] = [
     Pass::Peephole2,
 ];
 
+static SCHEDULED: [Pass; 9] = [
+    Pass::Read,
+    Pass::Lower,
+    Pass::Combine,
+    Pass::Split1,
+    Pass::Reload,
+    Pass::Frame,
+    Pass::Split2,
+    Pass::Peephole2,
+    Pass::Schedule,
+];
+
 impl Road {
     /// The passes of the road before the text is written, in their order.
     pub fn passes(self) -> &'static [Pass]
@@ -44,6 +58,7 @@ impl Road {
         match self {
             Road::Usual => &USUAL,
             Road::Reusing => &REUSING,
+            Road::Scheduled => &SCHEDULED,
         }
     }
 }

@@ -21,7 +21,7 @@ use Rattle.law_insn_replaced.specs.insn_replace.Replace.{ReplacedComes}
 use Rattle.law_insn_replaced.specs.pass_refusal.declared.refusal.PassRefusal.{PassRefusal}
 use Rattle.law_insn_replaced.specs.pass_refusal.declared.refusal.PassRefusal.TheVariants as refusal
 use Rattle.pass_name.specs.declared.pass.Pass.{Pass}
-use Rattle.pass_name.specs.declared.pass.Pass.TheVariants.{Read, Lower, Reuse, Combine, Split1, Reload, Frame, Split2, Peephole2, Output}
+use Rattle.pass_name.specs.declared.pass.Pass.TheVariants.{Read, Lower, Reuse, Combine, Split1, Reload, Frame, Split2, Peephole2, Schedule, Output}
 use Rattle.rtx_tree.specs.Limit.{most_splits}
 
 -- ---- what forms make of an instruction
@@ -37,6 +37,7 @@ has_homes Reload = false
 has_homes Frame = true
 has_homes Split2 = true
 has_homes Peephole2 = true
+has_homes Schedule = true
 has_homes Output = true
 
 -- what conditions know at a pass

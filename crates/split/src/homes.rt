@@ -16,7 +16,7 @@ fn has_homes(pass: Pass) -> bool
     match pass {
         Pass::Read | Pass::Lower | Pass::Reuse | Pass::Combine | Pass::Split1 | Pass::Reload =>
             false,
-        Pass::Frame | Pass::Split2 | Pass::Peephole2 | Pass::Output => true,
+        Pass::Frame | Pass::Split2 | Pass::Peephole2 | Pass::Schedule | Pass::Output => true,
     }
 }
 

@@ -19,6 +19,7 @@ fn by_road(road: Road) -> &'static str {
     match road {
         Road::Usual => "asm",
         Road::Reusing => "reuse",
+        Road::Scheduled => "schedule",
     }
 }
 
@@ -27,6 +28,7 @@ fn show_over(name: &Option<Name>, what: &Tells, told: &mut Told) {
     match what {
         Tells::Lines { road } => show_described(by_road(*road), name, told),
         Tells::Forms => show_described("recog", name, told),
+        Tells::Cycles => show_described("cycles", name, told),
         Tells::Words => show_described("image", name, told),
         Tells::Behind { pass } => {
             show_described("dump", name, told);

@@ -1,9 +1,10 @@
-//! What is told of small cases of functions, lines, memory and registers.
+//! What is told of small cases of functions, lines, memory, registers and dependences.
 //!
 //! A case is an input of a table; [`answer`] tells what comes of it, which the case compares with
 //! what it wants.
 #![tactic(auto)]
 
+mod depends;
 mod functions;
 mod lines;
 mod memory;
@@ -25,4 +26,5 @@ pub fn answer(alloc: Global, table: &str, given: &[u8], input: &[u8], told: &mut
         || runs::answer(alloc, table, input, told)
         || memory::answer(alloc, table, given, input, told)
         || registers::answer(alloc, table, input, told)
+        || depends::answer(alloc, table, input, told)
 }

@@ -2,7 +2,7 @@
 use crate::ways::show;
 use case_text::Told;
 use md_attr::{Attributes, has_alternative};
-use md_dfa::{Pipeline, pipeline_of};
+use md_dfa::{Pipeline, pipeline_in};
 use md_forms::forms_of;
 use md_iter::{Expanded, expand_forms};
 use plain_data::Memory;
@@ -48,8 +48,8 @@ fn show_forms(pipeline: &Pipeline, attrs: &Attributes, count: usize, told: &mut 
 }
 
 fn tell_expanded(alloc: Global, expanded: &Expanded, told: &mut Told) -> Result<(), Memory> {
-    let pipeline = pipeline_of(alloc, expanded.forms.as_slice())?;
     let forms = forms_of(alloc, expanded.forms.as_slice(), &expanded.constants)?;
+    let pipeline = pipeline_in(alloc, forms.as_slice())?;
     let attrs = Attributes::of(alloc, &forms)?;
     show_reservations(&pipeline, told);
     told.text(";");

@@ -1,8 +1,10 @@
 -- What a pass makes that changes the function alone, from what its call gave.
 use Rattle.std.proofs.Common.{◌≡◌, ℕ, List, Result, Ok, Err, sym, subst}
 use Rattle.rtx_tree.specs.declared.function.Function.{Function}
-use Rattle.pass_name.specs.declared.pass.Pass.TheVariants.{Lower, Reuse, Combine, Split1, Split2, Peephole2}
+use Rattle.pass_name.specs.declared.pass.Pass.TheVariants.{Lower, Reuse, Combine, Split1, Split2, Peephole2, Schedule}
 use Rattle.md_forms.specs.declared.form.Entry.{Entry}
+use Rattle.md_dfa.specs.Pipeline.{pipeline_in}
+use Rattle.md_dfa.specs.declared.pipeline.Pipeline.{Pipeline}
 use Rattle.pass_refusal.specs.declared.refusal.PassRefusal.{PassRefusal}
 use Rattle.pass_refusal.specs.declared.refusal.PassRefusal.TheVariants as passes
 use Rattle.pass_refusal.specs.Outcome as outcome
@@ -11,6 +13,8 @@ use Rattle.reuse.specs.Reuse.{Reused}
 use Rattle.combine.specs.Combine.{Combined}
 use Rattle.split.specs.Split.{SplitComes}
 use Rattle.peep2.specs.Cover.{CoverComes}
+use Rattle.schedule.specs.Schedule.{Scheduled}
+use Rattle.schedule.specs.declared.plan.CycleOf.{CycleOf}
 use Rattle.func_after.specs.After.{Changed, plainly, ChangeComes}
 
 -- what follows from what a pass comes to that gives a function and nothing beside it
@@ -31,6 +35,12 @@ reused forms n f g comes = ChangeComes.reuses n g comes
 pub combined : (forms : List Entry) (n : ℕ) (f g : Function) → Combined forms n f g →
     outcome.Gives (Ok (record { function = g; combined = n })) (ChangeComes forms f Combine)
 combined forms n f g comes = ChangeComes.combines n g comes
+
+-- what putting instructions in order makes
+pub scheduled : (forms : List Entry) (pipeline : Pipeline) (cycles : List CycleOf) (f g : Function) → pipeline ≡ pipeline_in forms → Scheduled forms pipeline f cycles g →
+    outcome.Gives (Ok (record { function = g; combined = 0 })) (ChangeComes forms f Schedule)
+scheduled forms pipeline cycles f g is comes =
+    ChangeComes.schedules cycles g (subst (λ (p : Pipeline). Scheduled forms p f cycles g) is comes)
 
 module _ (forms : List Entry) (f : Function) (r : Result Function PassRefusal) (c : Changed) (is : c ≡ plainly r) where
   -- a line a pass

@@ -5,14 +5,17 @@ use Rattle.rtx_tree.specs.declared.limit.Limit.TheVariants.{Instructions}
 use Rattle.run_refusal.specs.declared.refusal.Refusal.{Refusal}
 use Rattle.run_refusal.specs.declared.refusal.Refusal.TheVariants as refusal
 use Rattle.pass_name.specs.declared.pass.Pass.{Pass}
-use Rattle.pass_name.specs.declared.pass.Pass.TheVariants.{Read, Lower, Reuse, Combine, Split1, Reload, Frame, Split2, Peephole2, Output}
+use Rattle.pass_name.specs.declared.pass.Pass.TheVariants.{Read, Lower, Reuse, Combine, Split1, Reload, Frame, Split2, Peephole2, Schedule, Output}
 use Rattle.md_forms.specs.declared.form.Entry.{Entry}
+use Rattle.md_dfa.specs.Pipeline.{pipeline_in}
 use Rattle.pass_refusal.specs.declared.refusal.PassRefusal.{PassRefusal}
 use Rattle.lower.specs.Lower.{LowerComes}
 use Rattle.reuse.specs.Reuse.{Reused}
 use Rattle.combine.specs.Combine.{Combined}
 use Rattle.split.specs.Split.{SplitComes}
 use Rattle.peep2.specs.Cover.{CoverComes}
+use Rattle.schedule.specs.Schedule.{Scheduled}
+use Rattle.schedule.specs.declared.plan.CycleOf.{CycleOf}
 use Rattle.assign.specs.Frame.{layout_of}
 use Rattle.assign.specs.Homes.{AreHomes}
 use Rattle.assign.specs.declared.home.HomeOf.{HomeOf}
@@ -70,6 +73,10 @@ module _ (forms : List Entry) (f : Function) (c : Change) where
 
   pub cover_by : (a : Changed) → a ≡ Ok c → ChangeComes forms f Peephole2 a → CoverComes forms f (Ok c.function)
   cover_by _ is (ChangeComes.covers r comes) = subst (CoverComes forms f) (plain_is r c is) comes
+
+  pub schedule_by : (a : Changed) → a ≡ Ok c → ChangeComes forms f Schedule a → (cycles : List CycleOf) × Scheduled forms (pipeline_in forms) f cycles c.function
+  schedule_by _ is (ChangeComes.schedules cycles g comes) = let same : record { function = g; combined = 0 } ≡ c = cc in
+      (cycles, subst (λ (d : Change). Scheduled forms (pipeline_in forms) f cycles d.function) same comes)
 
 -- what a pass that gave something made
 module _ (forms : List Entry) (m next : Made) (pass : Pass) where

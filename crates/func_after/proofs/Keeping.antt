@@ -4,13 +4,15 @@ use Rattle.std.specs.List.{AllByRecursion}
 use Rattle.rtx_tree.specs.Limit.{most_frame}
 use Rattle.rtx_tree.specs.declared.function.Function.{Function}
 use Rattle.pass_name.specs.declared.pass.Pass.{Pass}
-use Rattle.pass_name.specs.declared.pass.Pass.TheVariants.{Read, Lower, Reuse, Combine, Split1, Reload, Frame, Split2, Peephole2}
+use Rattle.pass_name.specs.declared.pass.Pass.TheVariants.{Read, Lower, Reuse, Combine, Split1, Reload, Frame, Split2, Peephole2, Schedule}
 use Rattle.pass_name.specs.declared.road.Road.{Road}
-use Rattle.pass_name.specs.declared.road.Road.TheVariants.{Usual, Reusing}
+use Rattle.pass_name.specs.declared.road.Road.TheVariants.{Usual, Reusing, Scheduled}
 use Rattle.pass_name.specs.Road.{before_homes, behind_frame}
 use Rattle.rv_text.specs.declared.line.CodeItem.{CodeItem}
 use Rattle.md_forms.specs.declared.form.Entry.{Entry}
 use Rattle.md_forms.specs.Forms.{forms_of}
+use Rattle.md_dfa.specs.Pipeline.{pipeline_in}
+use Rattle.md_dfa.proofs.LawfulLaws.{pipeline_lawful}
 use Rattle.same_behaviour.specs.Same.{Same}
 use Rattle.law_window_lines.specs.Left.{SameWhereLeft}
 use Rattle.assign.specs.Frame.{layout_of, IsFrame}
@@ -25,6 +27,10 @@ use Rattle.combine.proofs.Kept.{steps_kept}
 use Rattle.split.specs.Split.{SplitComes}
 use Rattle.split.proofs.Sound.{split_kept, split_does}
 use Rattle.law_peepholes.proofs.Placed.{peepholes_keep}
+use Rattle.schedule.specs.Schedule as orders
+use Rattle.schedule.specs.declared.plan.CycleOf.{CycleOf}
+use Rattle.schedule.proofs.KeptLaws.{each_kept}
+use Rattle.schedule.proofs.DoesLaws.{schedule_does}
 use Rattle.reload.specs.law_frame.law_window_replaced.law_window_kept.law_function_kept.Keeps.{Keeps}
 use Rattle.reload.proofs.law_frame.law_window_replaced.law_kept_composed.Keeping.{keeps_refl, keeps_trans}
 use Rattle.reload.specs.law_frame.Keeps.{IsLaidOut, KeepsInFrame}
@@ -34,7 +40,7 @@ use Rattle.frame.proofs.Kept.{is_framed, frame_keeps}
 use Rattle.reload.proofs.WindowLaws.{reload_windows}
 use Rattle.reload.specs.Windows.{HasWindows}
 use Rattle.law_peepholes.specs.law_lines_ready.law_no_pseudos.Hard.{IsHardFunction}
-use Rattle.law_peepholes.specs.law_lines_ready.Placed.{ArePlaced}
+use Rattle.law_peepholes.specs.law_lines_ready.Placed.{IsInsnPlaced, ArePlaced}
 use Rattle.law_peepholes.proofs.law_lines_ready.law_no_pseudos.Reloaded.{reload_hard}
 use Rattle.law_peepholes.proofs.law_lines_ready.law_no_pseudos.Framed.{frame_hard}
 use Rattle.law_peepholes.proofs.law_lines_ready.Reloaded.{reload_placed}
@@ -48,7 +54,7 @@ use Rattle.func_after.specs.declared.change.Change.{Change}
 use Rattle.func_after.specs.After.{as_read, ChangeComes, AfterComes}
 use Rattle.func_after.specs.Leads.{IsDescribed, LeadsToLines}
 use Rattle.func_after.proofs.Hard.{behind_hard}
-use Rattle.func_after.proofs.Changes.{read_by, lower_by, reuse_by, combine_by, split_by, again_by, cover_by, changes_of}
+use Rattle.func_after.proofs.Changes.{read_by, lower_by, reuse_by, combine_by, split_by, again_by, cover_by, schedule_by, changes_of}
 use Rattle.func_after.proofs.Passing.{PassHolds, all_hold}
 use Rattle.func_after.proofs.Stages.{Stages, stages_of}
 
@@ -101,6 +107,7 @@ module _ (forms : List Entry) where
   before_keeps : (road : Road) → AllByRecursion Before (before_homes road)
   before_keeps Usual = (read_keeps, (lower_keeps, (combine_keeps, (split_keeps, tt))))
   before_keeps Reusing = (read_keeps, (lower_keeps, (reuse_keeps, (combine_keeps, (split_keeps, tt)))))
+  before_keeps Scheduled = (read_keeps, (lower_keeps, (combine_keeps, (split_keeps, tt))))
 
 -- ---- those behind the frame
 
@@ -144,10 +151,20 @@ module _ (forms : List Entry) where
   cover_keeps : Behind Peephole2
   cover_keeps = behind_by Peephole2 (λ is. cc) (λ is. cc) (λ f c placed comes. peepholes_keep forms f c.function placed (cover_by forms f c (Ok c) refl comes))
 
+  schedule_does_placed : (f g : Function) (cycles : List CycleOf) → ArePlaced f → orders.Scheduled forms (pipeline_in forms) f cycles g → Keeps f g × ArePlaced g
+  schedule_does_placed f g cycles placed comes =
+      let lawful = pipeline_lawful forms in
+      (schedule_does forms (pipeline_in forms) lawful f g cycles (placed_marks f placed) (placed_registers f placed) comes,
+      each_kept forms (pipeline_in forms) lawful IsInsnPlaced f g cycles comes placed)
+
+  schedule_keeps : Behind Schedule
+  schedule_keeps = behind_by Schedule (λ is. cc) (λ is. cc) (λ f c placed comes. let made = schedule_by forms f c (Ok c) refl comes in schedule_does_placed f c.function made.0 placed made.1)
+
   -- each of them does what the function did, and leaves it placed
   behind_keeps : (road : Road) → AllByRecursion Behind (behind_frame road)
   behind_keeps Usual = (again_keeps, (cover_keeps, tt))
   behind_keeps Reusing = (again_keeps, (cover_keeps, tt))
+  behind_keeps Scheduled = (again_keeps, (cover_keeps, (schedule_keeps, tt)))
 
 -- ---- all
 

@@ -6,6 +6,7 @@ use Rattle.pass_name.specs.declared.road.Road.{Road}
 use Rattle.pass_name.specs.Road.{passes_of}
 use Rattle.pass_name.specs.declared.pass.Pass.TheVariants.{Split1, Split2}
 use Rattle.md_forms.specs.declared.form.Entry.{Entry}
+use Rattle.md_dfa.specs.Pipeline.{pipeline_in}
 use Rattle.lower.specs.Lower.{LowerComes}
 use Rattle.lower.proofs.Kept.{lower_same}
 use Rattle.reuse.proofs.Kept as reuse
@@ -14,6 +15,7 @@ use Rattle.split.specs.Split.{SplitComes}
 use Rattle.split.proofs.Kept.{same_marks}
 use Rattle.peep2.specs.Cover.{CoverComes}
 use Rattle.peep2.proofs.Sound.{cover_same}
+use Rattle.schedule.proofs.KeptLaws as schedule
 use Rattle.assign.specs.Frame.{layout_of}
 use Rattle.reload.specs.Reload.{FunctionReloads}
 use Rattle.reload.proofs.Marks.{reload_marks}
@@ -42,6 +44,10 @@ module _ (forms : List Entry) where
       (same_marks forms Split2 f c.function (subst (SplitComes forms Split2 f) (plain_is r c is) comes)).name_is
   change_name f _ c _ is (ChangeComes.covers r comes) =
       (cover_same forms f c.function (subst (CoverComes forms f) (plain_is r c is) comes)).name_is
+  change_name f _ c _ is (ChangeComes.schedules cycles g comes) =
+      let same : record { function = g; combined = 0 } ≡ c = cc in
+      sym (ap (λ (d : Change). d.function.name) same)
+      ∙ schedule.kept forms (pipeline_in forms) (λ (h : Function). h.name ≡ f.name) (λ h place plan planned put so_far. so_far) f g cycles comes refl
   change_name f _ c _ is ChangeComes.writes = let same : record { function = f; combined = 0 } ≡ c = cc in sym (ap (λ (d : Change). d.function.name) same)
 
   pass_name : (m n : Made) (pass : Pass) (a : Answer) → a ≡ Ok n → PassMakes forms m pass a → n.function.name ≡ m.function.name

@@ -4,6 +4,7 @@ use Rattle.rtx_tree.specs.declared.function.Function.{Function}
 use Rattle.rtx_tree.specs.declared.limit.Limit.TheVariants.{Instructions}
 use Rattle.run_refusal.specs.declared.refusal.Refusal.TheVariants as refusal
 use Rattle.md_forms.specs.declared.form.Entry.{Entry}
+use Rattle.md_dfa.specs.Pipeline.{pipeline_in}
 use Rattle.pass_name.specs.declared.pass.Pass.{Pass}
 use Rattle.pass_name.specs.declared.road.Road.{Road}
 use Rattle.pass_name.specs.Road.{passes_of}
@@ -13,6 +14,7 @@ use Rattle.reuse.proofs.One.{reused_one}
 use Rattle.combine.proofs.One.{combined_one}
 use Rattle.split.proofs.One.{one_split}
 use Rattle.peep2.proofs.One.{cover_one}
+use Rattle.schedule.proofs.OneLaws.{scheduled_one}
 use Rattle.assign.specs.Frame.{layout_of}
 use Rattle.assign.specs.declared.home.HomeOf.{HomeOf}
 use Rattle.assign.proofs.OneLaws.{only}
@@ -40,6 +42,8 @@ module _ (forms : List Entry) where
   change_one f _ _ _ (ChangeComes.splits_first r does) (ChangeComes.splits_first s does') = ap plainly (one_split forms Split1 f r s does does')
   change_one f _ _ _ (ChangeComes.splits_again r does) (ChangeComes.splits_again s does') = ap plainly (one_split forms Split2 f r s does does')
   change_one f _ _ _ (ChangeComes.covers r does) (ChangeComes.covers s does') = ap plainly (cover_one forms f r s does does')
+  change_one f _ _ _ (ChangeComes.schedules a g does) (ChangeComes.schedules b h does') =
+      ap (λ (g : Function). plainly (Ok g)) (scheduled_one forms (pipeline_in forms) f g h a b does does').1
   change_one f _ _ _ ChangeComes.writes ChangeComes.writes = refl
 
   makes_one : (m : Made) (pass : Pass) (a b : Answer) → PassMakes forms m pass a → PassMakes forms m pass b → a ≡ b

@@ -4,7 +4,7 @@ use Rattle.std.specs.Prelude.{if◌then◌else◌}
 use Rattle.rtx_tree.specs.declared.function.Function.{Function}
 use Rattle.run_refusal.specs.declared.refusal.Refusal.{Refusal}
 use Rattle.pass_name.specs.declared.road.Road.{Road}
-use Rattle.pass_name.specs.declared.road.Road.TheVariants.{Usual, Reusing}
+use Rattle.pass_name.specs.declared.road.Road.TheVariants.{Usual, Reusing, Scheduled}
 use Rattle.pass_name.specs.Road.{passes_of}
 use Rattle.md_forms.specs.declared.form.Entry.{Entry}
 use Rattle.pass_name.specs.declared.pass.Pass.{Pass}
@@ -83,6 +83,7 @@ up_to_all : (road : Road) → up_to Output (passes_of road) ≡ passes_of road
 unfolding up_to
 up_to_all Usual = refl
 up_to_all Reusing = refl
+up_to_all Scheduled = refl
 
 -- what is behind the last is what comes to output
 pub behind_all : (forms : List Entry) (road : Road) (f : Function) (a : Answer) → Gives a (IsBehind forms road f Output) → Gives a (AfterComes forms road f)

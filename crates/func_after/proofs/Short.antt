@@ -3,7 +3,7 @@ use Rattle.std.proofs.Common.{List, ◌∷◌, drop, Ok, refl}
 use Rattle.rtx_tree.specs.declared.function.Function.{Function}
 use Rattle.pass_name.specs.declared.pass.Pass.{Pass}
 use Rattle.pass_name.specs.declared.road.Road.{Road}
-use Rattle.pass_name.specs.declared.road.Road.TheVariants.{Usual, Reusing}
+use Rattle.pass_name.specs.declared.road.Road.TheVariants.{Usual, Reusing, Scheduled}
 use Rattle.pass_name.specs.Road.{passes_of}
 use Rattle.pass_name.specs.declared.pass.Pass.TheVariants.{Read}
 use Rattle.md_forms.specs.declared.form.Entry.{Entry}
@@ -26,3 +26,4 @@ some_short forms pass others m last comes =
 pub after_short : (forms : List Entry) (road : Road) (f : Function) (m : Made) → AfterComes forms road f (Ok m) → IsShort m
 after_short forms Usual f m comes = some_short forms Read (drop 1 (passes_of Usual)) (as_read f) m comes
 after_short forms Reusing f m comes = some_short forms Read (drop 1 (passes_of Reusing)) (as_read f) m comes
+after_short forms Scheduled f m comes = some_short forms Read (drop 1 (passes_of Scheduled)) (as_read f) m comes

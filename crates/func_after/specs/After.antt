@@ -10,12 +10,13 @@ use Rattle.rtx_tree.specs.Limit.{most_made}
 use Rattle.rtl_chain.specs.Counts.{instruction_count}
 use Rattle.pass_name.specs.Pass.{pass_name}
 use Rattle.pass_name.specs.declared.pass.Pass.{Pass}
-use Rattle.pass_name.specs.declared.pass.Pass.TheVariants.{Read, Lower, Reuse, Combine, Split1, Reload, Frame, Split2, Peephole2, Output}
+use Rattle.pass_name.specs.declared.pass.Pass.TheVariants.{Read, Lower, Reuse, Combine, Split1, Reload, Frame, Split2, Peephole2, Schedule, Output}
 use Rattle.pass_name.specs.declared.road.Road.{Road}
 use Rattle.pass_name.specs.Road.{passes_of}
 use Rattle.run_refusal.specs.declared.refusal.Refusal.{Refusal}
 use Rattle.run_refusal.specs.declared.refusal.Refusal.TheVariants as refusal
 use Rattle.md_forms.specs.declared.form.Entry.{Entry}
+use Rattle.md_dfa.specs.Pipeline.{pipeline_in}
 use Rattle.pass_refusal.specs.declared.refusal.PassRefusal.{PassRefusal}
 use Rattle.pass_refusal.specs.declared.refusal.PassRefusal.TheVariants as passes
 use Rattle.lower.specs.Lower.{LowerComes}
@@ -23,6 +24,8 @@ use Rattle.reuse.specs.Reuse.{Reused}
 use Rattle.combine.specs.Combine.{Combined}
 use Rattle.split.specs.Split.{SplitComes}
 use Rattle.peep2.specs.Cover.{CoverComes}
+use Rattle.schedule.specs.Schedule.{Scheduled}
+use Rattle.schedule.specs.declared.plan.CycleOf.{CycleOf}
 use Rattle.assign.specs.Frame.{layout_of}
 use Rattle.assign.specs.Homes.{AreHomes}
 use Rattle.assign.specs.declared.home.HomeOf.{HomeOf}
@@ -95,6 +98,9 @@ pub data ChangeComes (forms : List Entry) (f : Function) : Pass → Changed → 
       ChangeComes forms f Split2 (plainly r)
   covers : (r : Result Function PassRefusal) → CoverComes forms f r →
       ChangeComes forms f Peephole2 (plainly r)
+  schedules : (cycles : List CycleOf) (g : Function) →
+      Scheduled forms (pipeline_in forms) f cycles g →
+      ChangeComes forms f Schedule (plainly (Ok g))
   writes : ChangeComes forms f Output (plainly (Ok f))
 
 -- ---- one pass

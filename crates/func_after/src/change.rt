@@ -13,6 +13,7 @@ use pass_refusal::PassRefusal;
 use peep2::peep2;
 use reuse::reuse;
 use rtx_tree::Function;
+use schedule::schedule;
 use split::split;
 use std::alloc::Global;
 
@@ -101,4 +102,20 @@ pub(crate) fn covered(alloc: Global, desc: &Description, f: Function) -> Result<
     ensures { Gives result (ChangeComes desc.now f passes.Peephole2) }
 {
     plainly(peep2(alloc, desc, f))
+}
+
+/// What putting instructions in order makes.
+#[tactic(auto, using(crate::proofs::ChangeLaws::scheduled))]
+pub(crate) fn scheduled(
+    alloc: Global,
+    desc: &Description,
+    f: Function,
+) -> Result<Change, PassRefusal>
+    ensures { Gives result (ChangeComes desc.now f passes.Schedule) }
+{
+    let (function, _cycles) = schedule(alloc, desc, desc.pipeline(), f)?;
+    Ok(Change {
+        function,
+        combined: 0,
+    })
 }

@@ -5,7 +5,7 @@ ghost use Rattle.func_after.specs.After as spec;
 ghost use Rattle.func_after.specs.After.{Gives, PassComes, PassMakes};
 
 use crate::change::{
-    Change, combined, covered, lowered, plainly, reused, split_again, split_first,
+    Change, combined, covered, lowered, plainly, reused, scheduled, split_again, split_first,
 };
 use crate::made::Made;
 use crate::refusal::{refused_for, unreloaded_for};
@@ -35,6 +35,7 @@ fn combined_behind(pass: Pass, before: usize, now: usize) -> usize
         | Pass::Frame
         | Pass::Split2
         | Pass::Peephole2
+        | Pass::Schedule
         | Pass::Output => before,
     }
 }
@@ -146,6 +147,13 @@ fn made_by(alloc: Global, desc: &Description, m: Made, pass: Pass) -> Result<Mad
             m.layout,
             pass,
             covered(alloc, desc, m.function),
+        ),
+        Pass::Schedule => told(
+            name,
+            m.combined,
+            m.layout,
+            pass,
+            scheduled(alloc, desc, m.function),
         ),
     }
 }

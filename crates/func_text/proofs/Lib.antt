@@ -9,6 +9,10 @@ pub mod CodeLaws
 pub mod One
 pub mod Told
 pub mod Line
+pub mod CycleLine
+pub mod Looked
+pub mod CyclesOne
+pub mod CyclesTold
 pub mod DumpOne
 pub mod DumpTold
 pub use Rattle.func_after.proofs as func_after

@@ -25,7 +25,7 @@ module _ (es : List Entry) (function : List ℕ) (i : Insn) where
       line_of (names_of es) function i.uid c.form c.alternative ≡ line_of (names_of es) function i.uid d.form d.alternative
   same_line c d m n = ap (λ (k : Chosen). line_of (names_of es) function i.uid k.form k.alternative) (chosen_one es output_facts i.pattern c d m n)
 
-  output_one : (a b : Outcome) → OutputComes es function i a → OutputComes es function i b → a ≡ b
+  pub output_one : (a b : Outcome) → OutputComes es function i a → OutputComes es function i b → a ≡ b
   output_one _ _ (OutputComes.free e) (OutputComes.free f) = refl
   output_one _ _ (OutputComes.free e) (OutputComes.chosen c f m) = absurd (both (needs_form i) f e)
   output_one _ _ (OutputComes.free e) (OutputComes.unmatched f none) = absurd (both (needs_form i) f e)

@@ -16,12 +16,15 @@
 //! [`recog_of`] tells of each instruction as it comes to output the first form of a description
 //! that counts there: a line has the function, the uid, the form and the lowest enabled alternative
 //! that fits (`specs/Recog.antt`), and the first without one refuses the text, by its name.
-//! [`dump_of`] takes each function through the passes up to the one that is named, and prints it in
-//! the form that is read (`specs/Dump.antt`); what later passes would refuse is not met.
+//! [`cycles_of`] tells of each instruction that a pipeline's order put in its place the cycle in which
+//! it begins there, function by function in the new order (`specs/Cycles.antt`). [`dump_of`] takes
+//! each function through the passes up to the one that is named, and prints it in the form that is
+//! read (`specs/Dump.antt`); what later passes would refuse is not met.
 #![tactic(auto)]
 
 mod assembly;
 mod code;
+mod cycles;
 mod dump;
 mod input;
 mod lines;
@@ -30,6 +33,7 @@ mod summary;
 
 pub use assembly::{Assembly, CodeItems, Parts};
 pub use code::{Coded, code_of};
+pub use cycles::cycles_of;
 pub use dump::dump_of;
 pub use input::{assembled, assembly_of, compile};
 pub use recog::recog_of;

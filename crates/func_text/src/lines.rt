@@ -6,6 +6,7 @@ ghost use Rattle.func_input.specs.machine.Steps.{AppendedSome};
 ghost use Rattle.func_after.specs.Each.{EachComes};
 ghost use Rattle.func_text.specs.Recog as spec;
 ghost use Rattle.func_text.specs.Recog.{OutputComes};
+ghost use Rattle.func_text.specs.machine.Steps.{ComesToText};
 
 use form_needs::{name_at, needs_form, output_facts};
 use func_after::unmatched;
@@ -18,7 +19,7 @@ use std::alloc::Global;
 use text_words::{print_count, print_text};
 
 /// Appends a text and what ends it.
-fn print_part(text: &[u8], end: u8, out: &mut Vec<u8>) -> Result<(), Memory>
+pub(crate) fn print_part(text: &[u8], end: u8, out: &mut Vec<u8>) -> Result<(), Memory>
     ensures { OnOk result (out.new.items ≡ out.old.items ++ (text.now ++ end ∷ [])) }
 {
     print_text(text, out)?;
@@ -27,7 +28,7 @@ fn print_part(text: &[u8], end: u8, out: &mut Vec<u8>) -> Result<(), Memory>
 }
 
 /// Appends a number and what ends it.
-fn print_number(number: u64, end: u8, out: &mut Vec<u8>) -> Result<(), Memory>
+pub(crate) fn print_number(number: u64, end: u8, out: &mut Vec<u8>) -> Result<(), Memory>
     ensures { OnOk result (out.new.items ≡ out.old.items ++ (decimal number ++ end ∷ [])) }
 {
     print_count(number, out)?;
@@ -91,6 +92,40 @@ pub(crate) fn print_insns(
 {
     for insn in insns {
         print_insn(alloc, desc, names, function, insn, out)?;
+    }
+    Ok(())
+}
+
+/// Whether an instruction has a form at output, where it needs one.
+fn check_insn(
+    alloc: Global,
+    desc: &Description,
+    function: &Name,
+    insn: &Insn,
+) -> Result<(), Refusal>
+    ensures { ComesToText result (OutputComes desc.now function.now insn.now) }
+{
+    if !needs_form(insn) {
+        return Ok(());
+    }
+    match desc.recog_out(alloc, &insn.pattern, &output_facts(alloc))? {
+        Some(_) => Ok(()),
+        None => Err(unmatched(alloc, Pass::Output, function, insn)?),
+    }
+}
+
+/// Whether each instruction of a chain that needs a form at output has one.
+#[tactic(auto, using(crate::proofs::Looked::looked_start, crate::proofs::Looked::looked_on, crate::proofs::Looked::looked_wrong, crate::proofs::Looked::looked_all))]
+pub(crate) fn check_insns(
+    alloc: Global,
+    desc: &Description,
+    function: &Name,
+    insns: &[Insn],
+) -> Result<(), Refusal>
+    ensures { ComesToText result (EachComes (OutputComes desc.now function.now) insns.now) }
+{
+    for insn in insns {
+        check_insn(alloc, desc, function, insn)?;
     }
     Ok(())
 }

@@ -56,4 +56,44 @@ impl Tree {
             Bracket::Square => Tree::Vector { place, items },
         }
     }
+
+    /// A copy of the tree, places included.
+    #[cycle(copy)]
+    pub fn copy(&self, alloc: Global) -> Result<Tree, Memory>
+        ensures { IfOk result (λ tree. tree ≡ self.now) }
+    {
+        match self {
+            Tree::Atom { place, text } => Ok(Tree::Atom {
+                place: *place,
+                text: text.copy(alloc)?,
+            }),
+            Tree::Str { place, text } => Ok(Tree::Str {
+                place: *place,
+                text: text.copy(alloc)?,
+            }),
+            Tree::Block { place, text } => Ok(Tree::Block {
+                place: *place,
+                text: text.copy(alloc)?,
+            }),
+            Tree::List { place, items } => Ok(Tree::List {
+                place: *place,
+                items: copy_trees(alloc, items.as_slice())?,
+            }),
+            Tree::Vector { place, items } => Ok(Tree::Vector {
+                place: *place,
+                items: copy_trees(alloc, items.as_slice())?,
+            }),
+        }
+    }
+}
+
+#[cycle(copy)]
+fn copy_trees(alloc: Global, trees: &[Tree]) -> Result<Trees, Memory>
+    ensures { IfOk result (λ copies. copies ≡ trees.now) }
+{
+    let mut copies = Items::new(alloc);
+    for tree in trees {
+        copies.push(tree.copy(alloc)?)?;
+    }
+    Ok(copies)
 }

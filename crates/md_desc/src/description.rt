@@ -7,6 +7,8 @@ ghost use Rattle.md_constr.specs.machine.Tables.{AreConstraintsOf};
 ghost use Rattle.md_constr.specs.Fits as constraints;
 ghost use Rattle.md_pred.specs.Holds.{holds};
 ghost use Rattle.md_pred.specs.machine.Table.{accepted_by};
+ghost use Rattle.md_dfa.specs.Lawful.{AreLawful};
+ghost use Rattle.md_dfa.specs.Pipeline.{pipeline_in};
 ghost use Rattle.rtx_tree.specs.Limit.{most_forms};
 ghost use Rattle.md_desc.specs.Recog as spec;
 ghost use Rattle.md_desc.specs.machine.Steps as steps;
@@ -17,6 +19,7 @@ ghost use Rattle.recog_tree.specs.machine.Tables as by_key;
 use c_eval::Facts;
 use md_attr::{Attributes, enabled, has_alternative};
 use md_constr::{Constraints, fits, operand_admits, operand_fits};
+use md_dfa::{Pipeline, pipeline_in};
 use md_forms::Forms;
 use md_pred::PredTable;
 use md_recog::{FormMatch, Half, Steps};
@@ -37,6 +40,7 @@ pub struct Description {
     insns: Tables,
     splits: Tables,
     windows: Tables,
+    pipeline: Pipeline,
 }
 
 impl Model for Description {
@@ -54,7 +58,8 @@ impl Model for Description {
 
     ghost invariant = { λ description.
         AreTablesOf description.forms description.preds description.constraints
-        description.attributes description.insns description.splits description.windows };
+        description.attributes description.insns description.splits description.windows
+        description.pipeline };
 }
 
 /// The tables that are asked of operands.
@@ -112,6 +117,7 @@ impl Description {
     {
         let of_operands = OperandTables::of(alloc, &forms)?;
         let of_forms = FormTables::of(alloc, &forms)?;
+        let pipeline = pipeline_in(alloc, forms.as_slice())?;
         Ok(Description {
             forms,
             preds: of_operands.preds,
@@ -120,6 +126,7 @@ impl Description {
             insns: of_forms.insns,
             splits: of_forms.splits,
             windows: of_forms.windows,
+            pipeline,
         })
     }
 
@@ -165,6 +172,15 @@ impl Description {
         ensures short { length result.now.keys < 2 ^ 32 }
     {
         &self.windows
+    }
+
+    /// The pipeline that its forms define.
+    #[tactic(auto, using(md_dfa::proofs::LawfulLaws::pipeline_lawful))]
+    pub fn pipeline(&self) -> &Pipeline
+        ensures is_of { result.now ≡ pipeline_in self.now }
+        ensures lawful { AreLawful result.now }
+    {
+        &self.pipeline
     }
 
     /// Whether a form is accepted and has an alternative.

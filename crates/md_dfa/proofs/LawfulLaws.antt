@@ -11,11 +11,14 @@ use Rattle.dfa_ways.specs.Ways.{Ways}
 use Rattle.dfa_ways.specs.Expression.{ways_of}
 use Rattle.law_ways.proofs.JoinedWays.{led, tested, some_is}
 use Rattle.law_ways.proofs.WholeWays.{have_ways}
+use Rattle.md_forms.specs.declared.form.Entry.{Entry}
 use Rattle.md_dfa.specs.declared.test.Test.{Test}
 use Rattle.md_dfa.specs.declared.reservation.Reservation.{Reservation}
 use Rattle.md_dfa.specs.Test.{test_of}
 use Rattle.md_dfa.specs.Reservations.{latency_by, latency_of, reservation_from, reservation_with, reservation_by, reservation_among, reservation_in}
-use Rattle.md_dfa.specs.Lawful.{IsLawful}
+use Rattle.md_dfa.specs.Units.{units_of}
+use Rattle.md_dfa.specs.Pipeline.{pipeline_in}
+use Rattle.md_dfa.specs.Lawful.{IsLawful, AreLawful}
 
 none_some : {A : Type 0} (x : A) → None ≡ Some x → ⊥
 none_some x e = cc
@@ -65,9 +68,11 @@ among_lawful units (h ∷ n ∷ l ∷ t ∷ x ∷ []) r e =
     by_lawful units l t (string_of n) (string_of x) r headed.gives
 among_lawful units (h ∷ n ∷ l ∷ t ∷ x ∷ y ∷ more) r e = absurd (none_some r e)
 
-reservation_lawful : (units : List (List ℕ)) (t : Tree) (r : Reservation) → reservation_in units t ≡ Some r → IsLawful r
+reservation_lawful : (units : List (List ℕ)) (form : Entry) (r : Reservation) → reservation_in units form ≡ Some r → IsLawful r
 unfolding reservation_in
-reservation_lawful units t r e = among_lawful units (items_of t) r e
+reservation_lawful units form r e =
+    let tree = led (λ t. reservation_among units (items_of t)) form.timing r e in
+    among_lawful units (items_of tree.value) r tree.gives
 
 -- ---- all of them
 
@@ -75,9 +80,11 @@ front_lawful : (o : Option Reservation) (rs : List Reservation) → ((r : Reserv
 front_lawful None rs here more = more
 front_lawful (Some r) rs here more = (here r refl, more)
 
-among_all : (units : List (List ℕ)) (ts : List Tree) → AllByRecursion IsLawful (filter_map (reservation_in units) ts)
+among_all : (units : List (List ℕ)) (forms : List Entry) → AllByRecursion IsLawful (filter_map (reservation_in units) forms)
 among_all units [] = tt
-among_all units (t ∷ ts) = front_lawful (reservation_in units t) (filter_map (reservation_in units) ts) (reservation_lawful units t) (among_all units ts)
+among_all units (form ∷ forms) = front_lawful (reservation_in units form) (filter_map (reservation_in units) forms) (reservation_lawful units form) (among_all units forms)
 
-pub all_lawful : (units : List (List ℕ)) (ts : List Tree) (all : List Reservation) → all ≡ filter_map (reservation_in units) ts → AllByRecursion IsLawful all
-all_lawful units ts all e = rw e (among_all units ts)
+-- the reservations of each pipeline are lawful
+pub pipeline_lawful : (forms : List Entry) → AreLawful (pipeline_in forms)
+unfolding pipeline_in
+pipeline_lawful forms = among_all (units_of forms) forms

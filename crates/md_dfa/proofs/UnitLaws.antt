@@ -1,7 +1,7 @@
 -- Units, one name or one form more.
-use Rattle.std.proofs.Common.{◌≡◌, ℕ, ◌+◌, ◌<◌, ◌≤◌, List, ◌∷◌, Option, Some, None, map, length, drop, get_or, refl, sym, ap, ◌∙◌}
+use Rattle.std.proofs.Common.{◌≡◌, ℕ, ◌+◌, ◌<◌, ◌≤◌, List, ◌∷◌, Option, Some, None, length, drop, get_or, refl, sym, ap, ◌∙◌}
 use Rattle.std.proofs.lemmas.List.{at_drop_more, at_drop_all}
-use Rattle.md_iter.specs.declared.substitution.Instance.{Instance}
+use Rattle.md_forms.specs.declared.form.Entry.{Entry}
 use Rattle.md_dfa.specs.Units.{with_unit, added, with_form, with_forms}
 
 module _ (names all : List (List ℕ)) (i : ℕ) (name : List ℕ) (whole : Option (List (List ℕ))) (within : i < length names) (is : name ≡ get_or names i name) (so_far : added all (drop i names) ≡ whole) where
@@ -23,12 +23,12 @@ added_ends names all i whole end so_far = sym so_far ∙ at_drop_all (added all)
 -- ---- forms
 
 -- one form more
-pub form_next : (forms : List Instance) (units more : List (List ℕ)) (i : ℕ) (form : Instance) (whole : List (List ℕ)) → i < length forms → form ≡ get_or forms i form
-    → with_forms units (map (λ f. f.tree) (drop i forms)) ≡ whole → more ≡ with_form units form.tree → with_forms more (map (λ f. f.tree) (drop (i + 1) forms)) ≡ whole
+pub form_next : (forms : List Entry) (units more : List (List ℕ)) (i : ℕ) (form : Entry) (whole : List (List ℕ)) → i < length forms → form ≡ get_or forms i form
+    → with_forms units (drop i forms) ≡ whole → more ≡ with_form units form → with_forms more (drop (i + 1) forms) ≡ whole
 form_next forms units more i form whole within is so_far made =
-    rw made (sym (at_drop_more (λ (fs : List Instance). with_forms units (map (λ f. f.tree) fs)) forms i form within
-    ∙ ap (λ (f : Instance). with_forms units (map (λ g. g.tree) (f ∷ drop (i + 1) forms))) (sym is)) ∙ so_far)
+    rw made (sym (at_drop_more (with_forms units) forms i form within
+    ∙ ap (λ (f : Entry). with_forms units (f ∷ drop (i + 1) forms)) (sym is)) ∙ so_far)
 
 -- all forms
-pub form_ends : (forms : List Instance) (units : List (List ℕ)) (i : ℕ) (whole : List (List ℕ)) → length forms ≤ i → with_forms units (map (λ f. f.tree) (drop i forms)) ≡ whole → units ≡ whole
-form_ends forms units i whole end so_far = sym (at_drop_all (λ (fs : List Instance). with_forms units (map (λ f. f.tree) fs)) forms i end) ∙ so_far
+pub form_ends : (forms : List Entry) (units : List (List ℕ)) (i : ℕ) (whole : List (List ℕ)) → length forms ≤ i → with_forms units (drop i forms) ≡ whole → units ≡ whole
+form_ends forms units i whole end so_far = sym (at_drop_all (with_forms units) forms i end) ∙ so_far

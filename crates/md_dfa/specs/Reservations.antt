@@ -4,6 +4,7 @@ use Rattle.rtx_tree.specs.Limit.{most_latency}
 use Rattle.lisp_read.specs.declared.tree.Tree.{Tree}
 use Rattle.lisp_read.specs.Shape.{atom_of, string_of, items_of, is_word}
 use Rattle.md_text.specs.Template.{operand_number}
+use Rattle.md_forms.specs.declared.form.Entry.{Entry}
 use Rattle.dfa_ways.specs.Ways.{Ways}
 use Rattle.dfa_ways.specs.Expression.{ways_of}
 use Rattle.md_dfa.specs.declared.test.Test.{Test}
@@ -38,5 +39,5 @@ reservation_among units _ = None
 
 -- the reservation that a form defines over some units:
 -- (define_insn_reservation "NAME" LATENCY TEST "EXPRESSION")
-unfoldable pub reservation_in : List (List ℕ) → Tree → Option Reservation
-reservation_in units t = reservation_among units (items_of t)
+unfoldable pub reservation_in : List (List ℕ) → Entry → Option Reservation
+reservation_in units form = option_and_then (λ t. reservation_among units (items_of t)) form.timing

@@ -1,8 +1,7 @@
 //! A pipeline.
-ghost use Rattle.std.specs.Prelude.{◌≡◌, ◌<◌, List, ℕ, Some, IfOk, length, map, slice_get, option_map};
+ghost use Rattle.std.specs.Prelude.{◌≡◌, ◌<◌, List, ℕ, Some, IfOk, length, slice_get, option_map};
 ghost use Rattle.md_forms.specs.declared.form.Entry.{Entry};
 ghost use Rattle.md_attr.specs.machine.Tables.{AreAttributesOf};
-ghost use Rattle.md_dfa.specs.Lawful.{AreLawful};
 ghost use Rattle.md_dfa.specs.Pipeline as spec;
 
 use crate::reservation::{Reservation, reservations_of};
@@ -10,7 +9,7 @@ use crate::test::holds;
 use crate::units::units_of;
 use dfa_ways::Ways;
 use md_attr::Attributes;
-use md_iter::Instance;
+use md_forms::Entry;
 use plain_data::{Items, Memory};
 use std::alloc::Global;
 
@@ -64,16 +63,14 @@ impl Pipeline {
     }
 }
 
-/// The pipeline of a description's forms, once its iterators are expanded.
+/// The pipeline that a description's forms define.
 ///
 /// A form that defines units by which there would be more than 64 defines none. A form of a
 /// reservation that is outside what is read, or whose expression is, is passed over. So whoever has a
 /// reservation has ways to try.
-#[tactic(auto, unfolding(crate::specs::Pipeline::pipeline_of))]
-pub fn pipeline_of(alloc: Global, forms: &[Instance]) -> Result<Pipeline, Memory>
-    ensures is_of { IfOk result (λ pipeline.
-        pipeline ≡ spec.pipeline_of (map (λ form. form.tree) forms.now)) }
-    ensures lawful { IfOk result (λ pipeline. AreLawful pipeline) }
+#[tactic(auto, unfolding(crate::specs::Pipeline::pipeline_in))]
+pub fn pipeline_in(alloc: Global, forms: &[Entry]) -> Result<Pipeline, Memory>
+    ensures { IfOk result (λ pipeline. pipeline ≡ spec.pipeline_in forms.now) }
 {
     let units = units_of(alloc, forms)?;
     Ok(Pipeline {

@@ -1,5 +1,5 @@
 //! Reservations, as forms define them.
-ghost use Rattle.std.specs.Prelude.{◌≡◌, IfOk, map, option_and_then};
+ghost use Rattle.std.specs.Prelude.{◌≡◌, IfOk, option_and_then};
 ghost use Rattle.std.specs.List.{filter_map};
 ghost use Rattle.lisp_read.specs.Shape.{atom_of};
 ghost use Rattle.md_dfa.specs.Reservations as spec;
@@ -7,7 +7,7 @@ ghost use Rattle.md_dfa.specs.Reservations as spec;
 use crate::test::{Test, test_in};
 use dfa_ways::{Ways, ways_of};
 use lisp_read::{Tree, atom, is_word, items, string};
-use md_iter::Instance;
+use md_forms::Entry;
 use md_text::operand_number;
 use plain_data::{Items, Memory};
 use rtx_tree::{MOST_LATENCY, Name};
@@ -74,10 +74,17 @@ fn reservation_with(
 
 /// `(define_insn_reservation "NAME" LATENCY TEST "EXPRESSION")`
 #[tactic(auto, unfolding(crate::specs::Reservations::reservation_in))]
-fn reservation_in(alloc: Global, units: &[Name], tree: &Tree) -> Result<Option<Reservation>, Memory>
+fn reservation_in(
+    alloc: Global,
+    units: &[Name],
+    form: &Entry,
+) -> Result<Option<Reservation>, Memory>
     ensures { IfOk result (λ reservation.
-        reservation ≡ spec.reservation_in units.now tree.now) }
+        reservation ≡ spec.reservation_in units.now form.now) }
 {
+    let Some(tree) = &form.timing else {
+        return Ok(None);
+    };
     match items(tree) {
         [head, name, latency, test, expression] if is_word(head, b"define_insn_reservation") => {
             match (string(name), string(expression)) {
@@ -96,14 +103,13 @@ fn reservation_in(alloc: Global, units: &[Name], tree: &Tree) -> Result<Option<R
 pub fn reservations_of(
     alloc: Global,
     units: &[Name],
-    forms: &[Instance],
+    forms: &[Entry],
 ) -> Result<Items<Reservation>, Memory>
-    ensures { IfOk result (λ all. all ≡ filter_map (spec.reservation_in units.now)
-        (map (λ form. form.tree) forms.now)) }
+    ensures { IfOk result (λ all. all ≡ filter_map (spec.reservation_in units.now) forms.now) }
 {
     let mut all = Items::new(alloc);
     for form in forms {
-        if let Some(reservation) = reservation_in(alloc, units, &form.tree)? {
+        if let Some(reservation) = reservation_in(alloc, units, form)? {
             all.push(reservation)?;
         }
     }

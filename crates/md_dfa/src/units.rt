@@ -1,12 +1,11 @@
 //! The units that forms define.
-ghost use Rattle.std.specs.Prelude.{◌≡◌, IfOk, map};
+ghost use Rattle.std.specs.Prelude.{◌≡◌, IfOk};
 ghost use Rattle.std.specs.List.{list_any};
 ghost use Rattle.std.specs.Str.{bytes_eq};
 ghost use Rattle.md_dfa.specs.Units as spec;
 
-use lisp_read::{Tree, is_word, items, string};
-use md_forms::copied_names;
-use md_iter::Instance;
+use lisp_read::{is_word, items, string};
+use md_forms::{Entry, copied_names};
 use md_text::members_of;
 use plain_data::{Items, Memory};
 use rtx_tree::{MOST_UNITS, Name};
@@ -15,9 +14,12 @@ use text_words::same;
 
 /// The names of units that a form defines: `(define_cpu_unit "NAMES" "AUTOMATON")`.
 #[tactic(auto, unfolding(crate::specs::Units::names_in))]
-fn names_in(alloc: Global, tree: &Tree) -> Result<Items<Name>, Memory>
-    ensures { IfOk result (λ names. names ≡ spec.names_in tree.now) }
+fn names_in(alloc: Global, form: &Entry) -> Result<Items<Name>, Memory>
+    ensures { IfOk result (λ names. names ≡ spec.names_in form.now) }
 {
+    let Some(tree) = &form.timing else {
+        return Ok(Items::new(alloc));
+    };
     match items(tree) {
         [head, names, automaton] if is_word(head, b"define_cpu_unit") => {
             match (string(names), string(automaton)) {
@@ -71,10 +73,10 @@ fn added(alloc: Global, units: &[Name], names: &[Name]) -> Result<Option<Items<N
 
 /// Some units with those that a form defines, if all of them are few enough.
 #[tactic(auto, unfolding(crate::specs::Units::with_form))]
-fn with_form(alloc: Global, units: Items<Name>, tree: &Tree) -> Result<Items<Name>, Memory>
-    ensures { IfOk result (λ more. more ≡ spec.with_form units tree.now) }
+fn with_form(alloc: Global, units: Items<Name>, form: &Entry) -> Result<Items<Name>, Memory>
+    ensures { IfOk result (λ more. more ≡ spec.with_form units form.now) }
 {
-    let names = names_in(alloc, tree)?;
+    let names = names_in(alloc, form)?;
     if names.is_empty() {
         return Ok(units);
     }
@@ -86,12 +88,12 @@ fn with_form(alloc: Global, units: Items<Name>, tree: &Tree) -> Result<Items<Nam
 
 /// The units that some forms define, in the order of their first names.
 #[tactic(auto, using(crate::proofs::UnitLaws::form_next, crate::proofs::UnitLaws::form_ends))]
-pub fn units_of(alloc: Global, forms: &[Instance]) -> Result<Items<Name>, Memory>
-    ensures { IfOk result (λ units. units ≡ spec.units_of (map (λ form. form.tree) forms.now)) }
+pub fn units_of(alloc: Global, forms: &[Entry]) -> Result<Items<Name>, Memory>
+    ensures { IfOk result (λ units. units ≡ spec.units_of forms.now) }
 {
     let mut units = Items::new(alloc);
     for form in forms {
-        units = with_form(alloc, units, &form.tree)?;
+        units = with_form(alloc, units, form)?;
     }
     Ok(units)
 }

@@ -151,7 +151,7 @@ module _ (constants : List Constant) (values : List (List ℕ)) (t : Tree) where
   by_named None none = without_head none
   by_named (Some h) is = with_head h is
 
-  by_head : (o : Option (List ℕ)) → head_in (items_of t) ≡ o → IsSmallest (Applies constants values t) (entry_by constants values o (items_of t)).draft
+  by_head : (o : Option (List ℕ)) → head_in (items_of t) ≡ o → IsSmallest (Applies constants values t) (entry_by constants values o t).draft
   unfolding headed
   by_head None none = without_head (ap (λ x. option_and_then head_named x) none)
   by_head (Some text) is = by_named (head_named text) (ap (λ x. option_and_then head_named x) is)

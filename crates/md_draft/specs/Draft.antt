@@ -1,7 +1,8 @@
 -- What a form says by its own text: each of its parts, or the smallest reason that one of them
 -- gives. A draft is what a form's own text tells; its reasons are those up to preparation
 -- statements outside.
-use Rattle.std.specs.Prelude.{ℕ, List, [], ◌∷◌, Option, Some, None, Err, if◌then◌else◌, codes}
+use Rattle.std.specs.Prelude.{ℕ, Bool, ◌||◌, List, [], ◌∷◌, Option, Some, None, Err, if◌then◌else◌, codes}
+use Rattle.std.specs.Str.{bytes_eq}
 use Rattle.rtx_tree.specs.declared.constants.Constant.{Constant}
 use Rattle.lisp_read.specs.declared.tree.Tree.{Tree}
 use Rattle.lisp_read.specs.Shape.{atom_of, string_of, items_of}
@@ -155,17 +156,30 @@ abbrev pub head_in : List Tree → Option (List ℕ)
 head_in (h ∷ ts) = atom_of h
 head_in [] = None
 
+-- whether a form with this head describes a pipeline: GCC Internals, "Specifying processor pipeline
+-- description". It says nothing by parts of its own here, and is kept as it is.
+abbrev pub is_of_pipeline : List ℕ → Bool
+is_of_pipeline text = bytes_eq text (codes "define_cpu_unit") || bytes_eq text (codes "define_insn_reservation")
+
+unfoldable pub timing_of : List ℕ → Tree → Option Tree
+timing_of text t = if is_of_pipeline text then Some t else None
+
 -- a tree that is no list with an atom at its head
 abbrev pub headless : List Tree → DraftEntry
-headless ts = record { head = codes "-"; name = name_in ts; draft = Err reason.Head }
+headless ts = record { head = codes "-"; name = name_in ts; draft = Err reason.Head; timing = None }
 
-unfoldable pub headed : List Constant → List (List ℕ) → List ℕ → List Tree → DraftEntry
-headed constants values text ts = record { head = text; name = name_in ts; draft = draft_by constants values (head_named text) ts }
+unfoldable pub headed : List Constant → List (List ℕ) → List ℕ → Tree → DraftEntry
+headed constants values text t = record {
+  head = text;
+  name = name_in (items_of t);
+  draft = draft_by constants values (head_named text) (items_of t);
+  timing = timing_of text t;
+}
 
-abbrev pub entry_by : List Constant → List (List ℕ) → Option (List ℕ) → List Tree → DraftEntry
-entry_by constants values None ts = headless ts
-entry_by constants values (Some text) ts = headed constants values text ts
+abbrev pub entry_by : List Constant → List (List ℕ) → Option (List ℕ) → Tree → DraftEntry
+entry_by constants values None t = headless (items_of t)
+entry_by constants values (Some text) t = headed constants values text t
 
 -- the draft of a tree, where some values have conditions
 abbrev pub entry_of : List Constant → List (List ℕ) → Tree → DraftEntry
-entry_of constants values t = entry_by constants values (head_in (items_of t)) (items_of t)
+entry_of constants values t = entry_by constants values (head_in (items_of t)) t

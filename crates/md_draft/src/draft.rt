@@ -1,6 +1,7 @@
 //! A form as far as its own text tells.
 use crate::head::{FormHead, RegisterClass};
 use c_cond::{Cond, Prep};
+use lisp_read::Tree;
 use md_pattern::{Judged, Patterns};
 use md_text::Template;
 use plain_data::Items;
@@ -94,4 +95,6 @@ pub struct DraftEntry {
     pub name: Option<Name>,
     /// The form's draft, or the smallest reason that its own text gives.
     pub draft: Judged<Draft>,
+    /// The form itself, where it is one of those that describe a pipeline.
+    pub timing: Option<Tree>,
 }

@@ -23,6 +23,7 @@ use plain_data::{Items, Memory};
 use pred_expr::Test;
 use rtx_tree::Name;
 use std::alloc::Global;
+use text_words::same;
 
 // ---- the parts of a form, several at a time
 
@@ -337,6 +338,25 @@ fn head_in(items: &[Tree]) -> Option<&Name>
     }
 }
 
+/// Whether a form with this head describes a pipeline.
+fn is_of_pipeline(head: &[u8]) -> bool
+    ensures { result ≡ spec.is_of_pipeline head.now }
+{
+    same(head, b"define_cpu_unit") || same(head, b"define_insn_reservation")
+}
+
+/// A copy of a form that describes a pipeline.
+#[tactic(auto, unfolding(crate::specs::Draft::timing_of))]
+fn timing_of(alloc: Global, head: &[u8], tree: &Tree) -> Result<Option<Tree>, Memory>
+    ensures { IfOk result (λ timing. timing ≡ spec.timing_of head.now tree.now) }
+{
+    if is_of_pipeline(head) {
+        Ok(Some(tree.copy(alloc)?))
+    } else {
+        Ok(None)
+    }
+}
+
 /// An entry without a draft.
 fn headless(alloc: Global, items: &[Tree]) -> Result<DraftEntry, Memory>
     ensures { IfOk result (λ entry. entry ≡ spec.headless items.now) }
@@ -345,6 +365,7 @@ fn headless(alloc: Global, items: &[Tree]) -> Result<DraftEntry, Memory>
         head: Name::of(alloc, b"-")?,
         name: name_of(alloc, items)?,
         draft: Err(Reason::Head),
+        timing: None,
     })
 }
 
@@ -354,23 +375,26 @@ fn headed(
     constants: &Constants,
     values: &[Name],
     head: &Name,
-    items: &[Tree],
+    tree: &Tree,
 ) -> Result<DraftEntry, Memory>
     ensures { IfOk result (λ entry.
-        entry ≡ spec.headed constants.now values.now head.now items.now) }
+        entry ≡ spec.headed constants.now values.now head.now tree.now) }
 {
+    let items = items(tree);
     let head_text = head.copy(alloc)?;
     let name = name_of(alloc, items)?;
+    let draft = draft_by(alloc, constants, values, head.bytes(), items)?;
     Ok(DraftEntry {
         head: head_text,
         name,
-        draft: draft_by(alloc, constants, values, head.bytes(), items)?,
+        draft,
+        timing: timing_of(alloc, head.bytes(), tree)?,
     })
 }
 
 /// What a tree says as a form, by itself: its head, its name, and its parts or the smallest reason
 /// that its own text gives. A tree that is no list with an atom at its head has the head `-` and no
-/// parts. `values` are the conditions that hold besides the form's own. The names in conditions and
+/// parts. Of a form that describes a pipeline it has a copy. `values` are the conditions that hold besides the form's own. The names in conditions and
 /// statements that are constants are read with `constants`.
 #[tactic(auto, using(crate::proofs::Reasons::of_entry))]
 pub fn entry_of(
@@ -385,9 +409,8 @@ pub fn entry_of(
     ensures reasons { IsSmallest (Applies constants.now values.now tree.now)
         (spec.entry_of constants.now values.now tree.now).draft }
 {
-    let items = items(tree);
-    match head_in(items) {
-        Some(head) => headed(alloc, constants, values, head, items),
-        None => headless(alloc, items),
+    match head_in(items(tree)) {
+        Some(head) => headed(alloc, constants, values, head, tree),
+        None => headless(alloc, items(tree)),
     }
 }

@@ -21,7 +21,7 @@ judged_form tables (Ok d) = form_of tables d
 judged_form tables (Err r) = Err r
 
 abbrev pub finished : Tables → DraftEntry → Entry
-finished tables e = record { head = e.head; name = e.name; form = judged_form tables e.draft }
+finished tables e = record { head = e.head; name = e.name; form = judged_form tables e.draft; timing = e.timing }
 
 abbrev pub forms_in : List DraftEntry → List Entry
 forms_in es = map (finished (tables_of es)) es

@@ -1,4 +1,5 @@
 //! Forms as what they say.
+use lisp_read::Tree;
 use md_tables::{
     Attribute, Cond, Constraint, FormHead, Judged, Prep, RegisterClass, Template, Test,
 };
@@ -55,6 +56,8 @@ pub struct Entry {
     pub name: Option<Name>,
     /// What the form says, or why it is set aside.
     pub form: Judged<Form>,
+    /// The form itself, where it is one of those that describe a pipeline.
+    pub timing: Option<Tree>,
 }
 
 /// The expanded forms, in order.

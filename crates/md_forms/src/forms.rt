@@ -36,12 +36,22 @@ fn entries_of(
 fn finished(alloc: Global, tables: &Tables, entry: DraftEntry) -> Result<Entry, Memory>
     ensures { IfOk result (λ form. form ≡ spec.finished tables.now entry) }
 {
-    let DraftEntry { head, name, draft } = entry;
+    let DraftEntry {
+        head,
+        name,
+        draft,
+        timing,
+    } = entry;
     let form = match draft {
         Ok(draft) => form_of(alloc, tables, draft)?,
         Err(reason) => Err(reason),
     };
-    Ok(Entry { head, name, form })
+    Ok(Entry {
+        head,
+        name,
+        form,
+        timing,
+    })
 }
 
 fn all_finished(alloc: Global, tables: &Tables, entries: Items<DraftEntry>) -> Result<Forms, Memory>

@@ -45,7 +45,7 @@ bare h = record {
 
 -- an accepted form, under the text of its head
 abbrev pub accepted : Option (List ℕ) → Form → Entry
-accepted name f = record { head = head_name f.head; name = name; form = Ok f }
+accepted name f = record { head = head_name f.head; name = name; form = Ok f; timing = None }
 
 abbrev pub named : List ℕ → Form → Entry
 named name f = accepted (Some name) f

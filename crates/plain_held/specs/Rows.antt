@@ -181,6 +181,7 @@ entry_of row = record {
   head = head_name row.head;
   name = option_map (λ name. name.now) row.name;
   form = Ok (form_of row);
+  timing = None;
 }
 
 -- ---- rows

@@ -40,8 +40,8 @@ pub fn is_entry(
     requires names { names.now ≡ spec.names }
     ensures { IfOk result (λ same. IsTrue same ↔ (entry.now ≡ spec.entry_of row.now)) }
 {
-    match &entry.form {
-        Ok(form) if is_headed(entry, row) => is_form(alloc, names, form, row),
+    match (&entry.form, &entry.timing) {
+        (Ok(form), None) if is_headed(entry, row) => is_form(alloc, names, form, row),
         _ => Ok(false),
     }
 }

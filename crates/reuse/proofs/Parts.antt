@@ -5,7 +5,7 @@ use Rattle.rtx_tree.specs.declared.function.Insn.{Insn}
 use Rattle.rtx_tree.specs.declared.tree.Rtx.{Rtx}
 use Rattle.rtx_tree.specs.declared.tree.Rtx.TheFolds.{fold_out-Rtx}
 use Rattle.rtx_tree.specs.Tree.{head_of, kids_of}
-use Rattle.reuse.specs.Reuse.{defined_by, defined_step, defines_part, is_mem_code, memory_step, has_memory}
+use Rattle.reuse.specs.Reuse.{defined_by, defined_step, defines_part}
 
 any_of_map : {A : Type 0} (f : A → Bool) (xs : List A) → list_any (λ here. here) (map f xs) ≡ list_any f xs
 any_of_map f [] = refl
@@ -13,6 +13,3 @@ any_of_map f (x ∷ xs) = ap (λ rest. f x || rest) (any_of_map f xs)
 
 pub defined_out : (i : Insn) (x : Rtx) → defines_part i x ≡ (defined_by i (head_of x).code (head_of x).number || list_any (defines_part i) (kids_of x))
 defined_out i x = fold_out-Rtx Bool (defined_step i) x ∙ ap (λ rest. defined_by i (head_of x).code (head_of x).number || rest) (any_of_map (defines_part i) (kids_of x))
-
-pub memory_out : (x : Rtx) → has_memory x ≡ (is_mem_code (head_of x).code || list_any has_memory (kids_of x))
-memory_out x = fold_out-Rtx Bool memory_step x ∙ ap (λ rest. is_mem_code (head_of x).code || rest) (any_of_map has_memory (kids_of x))

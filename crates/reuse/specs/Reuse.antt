@@ -5,7 +5,7 @@
 use Rattle.std.specs.Prelude.{◌≡◌, ◌⊎◌, ℕ, zero, suc, ℤ, pos, ◌+◌, ◌<◌, ◌≤◌, Bool, true, false, ◌&&◌, ◌||◌, not, List, [], ◌∷◌, ◌++◌, Option, Some, None, if◌then◌else◌, slice_get}
 use Rattle.std.specs.List.{list_any, list_all}
 use Rattle.rtx_tree.specs.declared.code.Code.{Code}
-use Rattle.rtx_tree.specs.declared.code.Code.TheVariants.{Reg, Mem, Set}
+use Rattle.rtx_tree.specs.declared.code.Code.TheVariants.{Reg, Set}
 use Rattle.rtx_tree.specs.declared.code.Mode.{Mode}
 use Rattle.rtx_tree.specs.declared.tree.Rtx.{Rtx}
 use Rattle.rtx_tree.specs.declared.tree.Rtx.TheOpen.{Rtx-F}
@@ -17,8 +17,8 @@ use Rattle.rtx_tree.specs.declared.function.Function.{Function}
 use Rattle.rtx_tree.specs.Limit.{most_reused}
 use Rattle.rtx_tree.specs.Patterns.{with_pattern}
 use Rattle.rtx_tree.specs.Tree.{head_of, kids_of, mentions_reg, reg_of, replaced_at}
-use Rattle.reg_uses.specs.Effects.{effects_of}
 use Rattle.reg_uses.specs.Uses.{insn_defines}
+use Rattle.mem_uses.specs.Memory.{has_memory, stores}
 use Rattle.live.specs.Live.{IsLiveAfter}
 use Rattle.new_insns.specs.Replaced.{window, replaced}
 use Rattle.insn_fuse.specs.Fused.{set_of}
@@ -70,29 +70,6 @@ defined_step i x = defined_by i x.code x.number || list_any (λ here. here) x.ki
 -- an instruction defines a register that stands in an expression
 abbrev pub defines_part : Insn → Rtx → Bool
 defines_part i = fold-Rtx Bool (defined_step i)
-
-abbrev pub is_mem_code : Code → Bool
-is_mem_code Mem = true
-is_mem_code _ = false
-
-abbrev pub memory_step : Rtx-F Bool → Bool
-memory_step x = is_mem_code x.code || list_any (λ here. here) x.kids
-
--- memory stands in an expression
-abbrev pub has_memory : Rtx → Bool
-has_memory = fold-Rtx Bool memory_step
-
-abbrev pub effect_stores_by : Code → List Rtx → Bool
-effect_stores_by Set (place ∷ parts) = is_mem_code (head_of place).code
-effect_stores_by _ parts = false
-
--- a `set` of memory
-abbrev pub effect_stores : Rtx → Bool
-effect_stores x = effect_stores_by (head_of x).code (kids_of x)
-
--- an instruction stores
-abbrev pub stores : Insn → Bool
-stores i = list_any effect_stores (effects_of i.pattern)
 
 -- no label, no jump and no call
 abbrev pub stands_between : Kind → Bool

@@ -1,11 +1,12 @@
 //! What stands between two instructions.
 ghost use Rattle.std.specs.Prelude.{◌≡◌, ◌+◌, ◌<◌, length, IfOk};
-ghost use Rattle.std.specs.List.{list_any, list_all};
+ghost use Rattle.std.specs.List.{list_all};
 ghost use Rattle.rtx_tree.specs.Tree.{head_of};
 ghost use Rattle.new_insns.specs.Replaced.{window};
 ghost use Rattle.reuse.specs.Reuse as spec;
 
 use live_chain::LiveChain;
+use mem_uses::{does_store, has_memory};
 use plain_data::Memory;
 use reg_uses::does_define;
 use rtx_tree::{Code, Insn, Kind, Rtx};
@@ -40,50 +41,6 @@ fn defines_part(insn: &Insn, x: &Rtx) -> Result<bool, Memory>
     Ok(false)
 }
 
-/// Whether memory stands in an expression.
-#[tactic(auto, using(crate::proofs::Parts::memory_out))]
-fn has_memory(x: &Rtx) -> bool
-    ensures { result ≡ spec.has_memory x.now }
-{
-    if matches!(x.code, Code::Mem) {
-        return true;
-    }
-    for kid in x.kids.as_slice() {
-        if has_memory(kid) {
-            return true;
-        }
-    }
-    false
-}
-
-/// Whether an effect is a `set` of memory.
-fn effect_stores(x: &Rtx) -> bool
-    ensures { result ≡ spec.effect_stores x.now }
-{
-    match (x.code, x.kids.as_slice()) {
-        (Code::Set, [place, ..]) => matches!(place.code, Code::Mem),
-        _ => false,
-    }
-}
-
-/// Whether one of some effects is.
-fn any_stores(effects: &[Rtx]) -> bool
-    ensures { result ≡ list_any spec.effect_stores effects.now }
-{
-    effects.iter().any(|x| effect_stores(x))
-}
-
-/// Whether an instruction stores.
-fn stores(insn: &Insn) -> bool
-    ensures { result ≡ spec.stores insn.now }
-{
-    if matches!(insn.pattern.code, Code::Parallel) {
-        any_stores(insn.pattern.kids.as_slice())
-    } else {
-        effect_stores(&insn.pattern)
-    }
-}
-
 fn stands_between(kind: Kind) -> bool
     ensures { result ≡ spec.stands_between kind }
 {
@@ -97,7 +54,7 @@ pub fn keeps(insn: &Insn, source: &Rtx) -> Result<bool, Memory>
     if !stands_between(insn.kind) {
         return Ok(false);
     }
-    if stores(insn) && has_memory(source) {
+    if does_store(insn) && has_memory(source) {
         return Ok(false);
     }
     let defines = defines_part(insn, source)?;

@@ -28,6 +28,8 @@ use Rattle.func_image.proofs.One.{one_image_of, tells_image, has_image}
 use Rattle.func_image.proofs.Does.{does_in_words}
 use Rattle.func_image.specs.func_text.Recog.{FunctionsCome as FormsTold}
 use Rattle.func_image.proofs.func_text.One.{functions_one}
+use Rattle.func_image.specs.func_text.Cycles as cycles
+use Rattle.func_image.proofs.func_text.CyclesOne as cycles_one
 use Rattle.func_image.specs.func_text.Dump as dump
 use Rattle.func_image.proofs.func_text.DumpOne as dump_one
 use Rattle.func_image.specs.func_text.declared.assembly.Assembly.{Assembly}
@@ -92,6 +94,7 @@ trial_one function steps args forms bytes a b p q = p.2 ∙ ap (evaluated steps 
 told_one : (t : Told) → IsOneOver (ToldComes t)
 told_one (telling.Lines road) forms bytes a b p q = text_one road forms bytes a b p q
 told_one telling.Forms forms bytes a b p q = one_coming_to (FormsTold forms) bytes a b (functions_one forms) p q
+told_one telling.Cycles forms bytes a b p q = one_coming_to (cycles.FunctionsCome forms) bytes a b (cycles_one.functions_one forms) p q
 told_one telling.Words forms bytes a b p q = one_image_of forms bytes a b p q
 told_one (telling.Behind pass) forms bytes a b p q = one_coming_to (dump.FunctionsCome forms pass) bytes a b (dump_one.functions_one forms pass) p q
 told_one (telling.Outcomes function steps args) forms bytes a b p q = trial_one function steps args forms bytes a b p q
@@ -183,6 +186,7 @@ told_outcomes bytes function steps args text forms (Err e) described comes is fa
 tells : (t : Told) (forms : List Entry) (bytes text : List ℕ) → IsDescribed forms → ToldComes t forms bytes (Ok text) → Tells t forms bytes text
 tells (telling.Lines road) forms bytes text described own = lines_told forms road bytes text own
 tells telling.Forms forms bytes text described own = let r = input_reached (FormsTold forms) bytes text (Ok text) refl own in (r.functions, r.input, r.own)
+tells telling.Cycles forms bytes text described own = let r = input_reached (cycles.FunctionsCome forms) bytes text (Ok text) refl own in (r.functions, r.input, r.own)
 tells telling.Words forms bytes text described own = tells_image forms bytes text own
 tells (telling.Behind pass) forms bytes text described own = let r = input_reached (dump.FunctionsCome forms pass) bytes text (Ok text) refl own in (r.functions, r.input, r.own)
 tells (telling.Outcomes function steps args) forms bytes text described own = told_outcomes bytes function steps args text forms own.0 described own.1 own.2 own.3
@@ -254,6 +258,8 @@ told_has (telling.Lines road) forms bytes functions o input have own =
     let whole = one_assembly forms road functions own.0 (Ok have.0) (input_last (AssemblyComes forms road) bytes functions own.0 input own.1) have.1 in
     (have.0.text, own.2 ∙ ap text_told whole)
 told_has telling.Forms forms bytes functions o input have own = (have.0, functions_one forms functions o (Ok have.0) (input_last (FormsTold forms) bytes functions o input own) have.1)
+told_has telling.Cycles forms bytes functions o input have own =
+    (have.0, cycles_one.functions_one forms functions o (Ok have.0) (input_last (cycles.FunctionsCome forms) bytes functions o input own) have.1)
 told_has telling.Words forms bytes functions o input have own = has_image forms bytes functions o input have own
 told_has (telling.Behind pass) forms bytes functions o input have own =
     (have.0, dump_one.functions_one forms pass functions o (Ok have.0) (input_last (dump.FunctionsCome forms pass) bytes functions o input own) have.1)

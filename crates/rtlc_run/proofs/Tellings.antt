@@ -59,6 +59,7 @@ forms_are_own known name _ h = (λ is. cc, λ is. cc)
 too_many : (t : Told) (forms : List Entry) (bytes : List ℕ) → most_bytes < length bytes → ToldComes t forms bytes (Err (refusal.Limit limit.Text (most_bytes + 1)))
 too_many (telling.Lines road) forms bytes long = (Err (refusal.Limit limit.Text (most_bytes + 1)), InputComesTo.too_long long, refl)
 too_many telling.Forms forms bytes long = InputComesTo.too_long long
+too_many telling.Cycles forms bytes long = InputComesTo.too_long long
 too_many telling.Words forms bytes long = InputComesTo.too_long long
 too_many (telling.Behind pass) forms bytes long = InputComesTo.too_long long
 too_many (telling.Outcomes function steps args) forms bytes long =

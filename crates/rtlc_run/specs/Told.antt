@@ -12,6 +12,7 @@ use Rattle.func_image.specs.func_text.Assembly.{AssemblyComes}
 use Rattle.func_image.specs.func_text.Compile.{TextComes}
 use Rattle.func_image.specs.func_text.Lines.{IsAssembly}
 use Rattle.func_image.specs.func_text.Recog.{FunctionsCome}
+use Rattle.func_image.specs.func_text.Cycles as cycles
 use Rattle.func_image.specs.func_text.Dump as dump
 use Rattle.func_image.specs.func_text.Code.{CodeComes, IsCoded, has_named}
 use Rattle.func_image.specs.func_text.declared.code.Coded.{Coded}
@@ -32,6 +33,10 @@ LinesCome road forms bytes outcome = TextComes forms road bytes outcome
 abbrev pub RecogComes : List Entry → List ℕ → Outcome → Type 0
 RecogComes forms bytes outcome = InputComesTo (FunctionsCome forms) bytes outcome
 
+-- the cycles of the instructions
+abbrev pub CyclesCome : List Entry → List ℕ → Outcome → Type 0
+CyclesCome forms bytes outcome = InputComesTo (cycles.FunctionsCome forms) bytes outcome
+
 -- the functions behind a pass
 abbrev pub DumpComes : Pass → List Entry → List ℕ → Outcome → Type 0
 DumpComes pass forms bytes outcome = InputComesTo (dump.FunctionsCome forms pass) bytes outcome
@@ -50,6 +55,7 @@ EvalComes function steps args forms bytes outcome =
 abbrev pub ToldComes : Told → List Entry → List ℕ → Outcome → Type 0
 ToldComes (telling.Lines road) = LinesCome road
 ToldComes telling.Forms = RecogComes
+ToldComes telling.Cycles = CyclesCome
 ToldComes telling.Words = ImageComes
 ToldComes (telling.Behind pass) = DumpComes pass
 ToldComes (telling.Outcomes function steps args) = EvalComes function steps args
@@ -63,15 +69,17 @@ pub record IsTried (c : Coded) (steps : ℕ) (args : List ℕ) : Type 0 where
   pub same : ComesToSame c.function c.items steps args
 
 -- The text is that of the assembly of the input's functions by the road; it has the form and the
--- alternative of each instruction; the words of the image of the assembly's lines; each function as
--- it is behind the pass; or the outcomes of the function with the name, and of the lines and labels
--- that its part of the assembly spells.
+-- alternative of each instruction; the cycle of each that took a new order; the words of the image
+-- of the assembly's lines; each function as it is behind the pass; or the outcomes of the function
+-- with the name, and of the lines and labels that its part of the assembly spells.
 abbrev pub Tells : Told → List Entry → List ℕ → List ℕ → Type 0
 Tells (telling.Lines road) forms bytes text =
     (functions : List Function) × IsInput bytes functions × (a : Assembly) ×
     IsAssembly forms road 0 functions a × (text ≡ a.text)
 Tells telling.Forms forms bytes text =
     (functions : List Function) × IsInput bytes functions × FunctionsCome forms functions (Ok text)
+Tells telling.Cycles forms bytes text = (functions : List Function) ×
+    IsInput bytes functions × cycles.FunctionsCome forms functions (Ok text)
 Tells telling.Words forms bytes text = TellsImage forms bytes text
 Tells (telling.Behind pass) forms bytes text = (functions : List Function) ×
     IsInput bytes functions × dump.FunctionsCome forms pass functions (Ok text)
@@ -81,12 +89,15 @@ Tells (telling.Outcomes function steps args) forms bytes text =
 
 -- ---- which functions have one
 
--- They have an assembly; each instruction has a form; they have an assembly, and its lines an image;
--- each comes through the pass; or they have an assembly, and the name is that of one.
+-- They have an assembly; each instruction has a form; each in its new order has one; they have an
+-- assembly, and its lines an image; each comes through the pass; or they have an assembly, and the
+-- name is that of one.
 abbrev pub HaveText : Told → List Entry → List Function → Type 0
 HaveText (telling.Lines road) forms functions =
     (a : Assembly) × AssemblyComes forms road functions (Ok a)
 HaveText telling.Forms forms functions = (text : List ℕ) × FunctionsCome forms functions (Ok text)
+HaveText telling.Cycles forms functions =
+    (text : List ℕ) × cycles.FunctionsCome forms functions (Ok text)
 HaveText telling.Words forms functions = HaveImage forms functions
 HaveText (telling.Behind pass) forms functions =
     (text : List ℕ) × dump.FunctionsCome forms pass functions (Ok text)

@@ -30,7 +30,7 @@ ghost use Rattle.rtlc_words.specs.Words as spoken;
 ghost use Rattle.rtlc_words.specs.Words.{words_of};
 ghost use Rattle.rtlc_run.specs.Answer as spec;
 ghost use Rattle.rtlc_run.specs.Shown.{line_told};
-ghost use Rattle.rtlc_run.specs.Told.{EvalComes, RecogComes, DumpComes, ToldComes};
+ghost use Rattle.rtlc_run.specs.Told.{EvalComes, RecogComes, CyclesCome, DumpComes, ToldComes};
 ghost use Rattle.rtlc_run.specs.Written.{WritesSame, WritesSameFramed, WritesWords, WritesText, HasText, IsDone};
 ghost use Rattle.rtlc_run.specs.machine.Steps.{Gives, IsOwn, InputRefused};
 ghost use Rattle.rtlc_run.specs.Answer.{ByForms, OverInput, CommandComes, Answers, IsMissing, IsMisused, reads_input, reads_files, IsKnownFor, MayBeAsked, NoneRose, ReadFails, Writes, WritesFront, IsRefused, Reports, HasCause, TellsCause, IsAnswered};
@@ -39,7 +39,7 @@ use crate::shown::line_told;
 use crate::summary::summary_of;
 use byte_edge::{Files, ReadAll, Sink, Source, read_all, write_all_of};
 use code_eval::eval_text;
-use func_image::{assembly_of, code_of, dump_of, image_of, recog_of};
+use func_image::{assembly_of, code_of, cycles_of, dump_of, image_of, recog_of};
 use md_desc::Description;
 use md_list::{ListRefusal, list};
 use md_named::{description_of, source_refused};
@@ -96,6 +96,16 @@ fn recognised(alloc: Global, description: &Description, bytes: &[u8]) -> Result<
     ensures read { result ≢ Err Refusal.ReadFault }
 {
     recog_of(alloc, description, bytes)
+}
+
+/// The cycles of the instructions of the functions among bytes.
+fn cycled(alloc: Global, description: &Description, bytes: &[u8]) -> Result<Vec<u8>, Refusal>
+    requires { length bytes.now ≤ most_bytes }
+    ensures gives { Gives result (CyclesCome description.now bytes.now) }
+    ensures own { IsOwn result }
+    ensures read { result ≢ Err Refusal.ReadFault }
+{
+    cycles_of(alloc, description, bytes)
 }
 
 /// The words of the image of the functions among bytes.
@@ -158,6 +168,7 @@ fn made(
     match told {
         Told::Lines { road } => assembled(alloc, description, *road, bytes),
         Told::Forms => recognised(alloc, description, bytes),
+        Told::Cycles => cycled(alloc, description, bytes),
         Told::Words => imaged(alloc, description, bytes),
         Told::Behind { pass } => dumped(alloc, description, *pass, bytes),
         Told::Outcomes {
@@ -493,9 +504,9 @@ fn report<E: Sink>(alloc: Global, errors: &mut E, refusal: Refusal) -> u8
     }
 }
 
-/// The whole program. `words` are those after the program's name: `asm`, `reuse`, `list`, `recog`,
-/// `dump PASS`, `eval NAME STEPS` with up to eight numbers, `make N`, `image`, or `plain`, and, but
-/// for `plain`, `--md NAME` at most once.
+/// The whole program. `words` are those after the program's name: `asm`, `reuse`, `schedule`,
+/// `list`, `recog`, `cycles`, `dump PASS`, `eval NAME STEPS` with up to eight numbers, `make N`,
+/// `image`, or `plain`, and, but for `plain`, `--md NAME` at most once.
 /// `files` are asked for a description that is named and for what it includes, `input` is read by
 /// all but `list` and `make`. The text is written to `output`, the line of a refusal to `errors`,
 /// and the exit status is given: 0, or that of the [`Refusal`].
@@ -539,10 +550,10 @@ pub fn run<F: Files, S: Source, K: Sink, E: Sink>(
         (S.fault_count input.new) (K.fault_count output.old) (K.fault_count output.new) →
         HasText known (S.left input.old) c → IsDone result }
 
-    // What the text of `asm` does, and that of `reuse`: on each road, the lines that it spells for
-    // each function do what the function does, whatever the description, where there is room for a
-    // frame of some size, which is at most 1,048,560; so they do where there is room for the frame
-    // that the function has by the description on this road.
+    // What the text of `asm` does, and that of `reuse` and of `schedule`: on each road, the lines
+    // that it spells for each function do what the function does, whatever the description, where
+    // there is room for a frame of some size, which is at most 1,048,560; so they do where there is
+    // room for the frame that the function has by the description on this road.
     ensures behaves { (name : Option (List ℕ)) (road : Road) →
         spoken.command_of (words_of words.now) ≡
         Some (commands.Over name (telling.Lines road)) →

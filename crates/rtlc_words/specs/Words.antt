@@ -7,7 +7,7 @@ use Rattle.std.specs.Str.{bytes_eq, chars}
 use Rattle.std.specs.Str.Parse.{digits_value, starts_with_minus}
 use Rattle.std.specs.Fmt.{decimal}
 use Rattle.pass_name.specs.Pass.{pass_named}
-use Rattle.pass_name.specs.declared.road.Road.TheVariants.{Usual, Reusing}
+use Rattle.pass_name.specs.declared.road.Road.TheVariants.{Usual, Reusing, Scheduled}
 use Rattle.rtlc_words.specs.declared.command.Told.{Told}
 use Rattle.rtlc_words.specs.declared.command.Told.TheVariants as told
 use Rattle.rtlc_words.specs.declared.command.Command.{Command}
@@ -159,6 +159,8 @@ table =
     ∷ (codes "make", generated)
     ∷ (codes "image", over (only told.Words))
     ∷ (codes "reuse", over (only (told.Lines Reusing)))
+    ∷ (codes "schedule", over (only (told.Lines Scheduled)))
+    ∷ (codes "cycles", over (only told.Cycles))
     ∷ (codes "plain", plain)
     ∷ []
 

@@ -25,6 +25,8 @@ pub enum Told {
     },
     /// The form that matches each instruction, and its alternative.
     Forms,
+    /// The cycle of each instruction that was put in order.
+    Cycles,
     /// The words of their image.
     Words,
     /// The functions as they are behind a pass.
@@ -244,6 +246,17 @@ fn command_by(
                 words,
             ),
         ),
+        "schedule" => over(
+            alloc,
+            description,
+            only(
+                Told::Lines {
+                    road: Road::Scheduled,
+                },
+                words,
+            ),
+        ),
+        "cycles" => over(alloc, description, only(Told::Cycles, words)),
         "plain" => Ok(plain(description, words)),
         _ => Ok(None),
     }

@@ -88,6 +88,7 @@ fn program<'a>(alloc: Global) -> Result<Command<'a>, AllocError>
     let program = with_two(program, alloc, "recog", "dump")?;
     let program = with_two(program, alloc, "eval", "make")?;
     let program = with_two(program, alloc, "image", "reuse")?;
+    let program = with_two(program, alloc, "schedule", "cycles")?;
     with_command(program, alloc, "plain")
 }
 

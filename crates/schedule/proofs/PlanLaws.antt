@@ -58,9 +58,6 @@ module _ (forms : List Entry) (p : Pipeline) (lawful : AreLawful p) (insns : Lis
       let long = cycles_long (jobs_of insns is.taken) is.cycles (record { taken = is.taken; takes = is.takes; jobs_are = refl }) is.placed in
       subst (IsPermutation insns) (sym is.puts) (stay_same insns is.cycles is.order long is.ordered)
 
-  pub plan_long : (q : Plan) → IsPlan forms p insns q → length q.insns ≡ length insns
-  plan_long q is = length_permutation insns q.insns (plan_same q is)
-
   pub order_long : (jobs : List Job) (cycles order : List ℕ) (new : List Insn) → AreJobsOf forms p insns jobs → AreCycles jobs cycles → IsOrder cycles order → new ≡ in_order insns order → length new ≡ length insns
   order_long jobs cycles order new of places is puts =
       ap length puts ∙ length_permutation insns (in_order insns order) (stay_same insns cycles order (cycles_long jobs cycles of places) is)

@@ -10,7 +10,13 @@ use Rattle.md_dfa.specs.declared.pipeline.Pipeline.{Pipeline}
 use Rattle.schedule.specs.declared.plan.CycleOf.{CycleOf}
 use Rattle.schedule.specs.declared.plan.Plan.{Plan}
 use Rattle.schedule.specs.Schedule.{region_end, IsPlanned, put_in, ScheduledFrom, Scheduled}
-use Rattle.schedule.specs.machine.Made.{IsDone, LeadsFrom}
+use Rattle.schedule.specs.machine.Made.{IsDone}
+
+-- what comes of the rest from a place on comes of all
+abbrev pub LeadsFrom : List Entry → Pipeline → ℕ → Function → List CycleOf → ℕ → Function → List CycleOf → Type 0
+LeadsFrom forms pipeline from f before place g now = (h : Function) (cycles : List CycleOf) →
+    ScheduledFrom forms pipeline place g cycles h →
+    (all : List CycleOf) × (before ++ all ≡ now ++ cycles) × ScheduledFrom forms pipeline from f all h
 
 -- with as many instructions in a window's place a function is as long
 pub put_long : (f : Function) (place end : ℕ) (new : List Insn) → place ≤ end → end ≤ length f.insns → place + length new ≡ end → length (replaced f place end new).insns ≡ length f.insns

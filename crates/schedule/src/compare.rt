@@ -48,9 +48,7 @@ pub fn is_put(
 {
     let live = chain.live_after(alloc, end - 1)?;
     chain.move_gap(end)?;
-    // with the gap at its end the window stands in one piece
-    let Some(window) = chain.window(first, end) else {
-        return Err(Memory);
-    };
-    is_same(alloc, window, new, &live)
+    // with the gap at its end the window is lent
+    let window = chain.window(alloc, first, end)?;
+    is_same(alloc, window.as_slice(), new, &live)
 }

@@ -24,7 +24,7 @@ use rtx_tree::{Function, MOST_SCHEDULED};
 use std::alloc::Global;
 
 /// Where the region ends that begins at a place. Places past 32 bits find no memory.
-fn region_end(chain: &mut LiveChain, place: u32) -> Result<u32, Memory>
+fn region_end(alloc: Global, chain: &mut LiveChain, place: u32) -> Result<u32, Memory>
     requires { place ≤ length chain.old.insns }
     ensures end { IfOk result (λ end. end ≡ spec.region_end chain.old place) }
     ensures within { IfOk result (λ end. end ≤ length chain.old.insns) }
@@ -37,11 +37,9 @@ fn region_end(chain: &mut LiveChain, place: u32) -> Result<u32, Memory>
     };
     let most = all.min(place.saturating_add(MOST_SCHEDULED));
     chain.move_gap(place)?;
-    // with the gap in front of it the rest stands in one piece
-    let Some(rest) = chain.window(place, most) else {
-        return Err(Memory);
-    };
-    let length = region_length(rest) as u32;
+    // with the gap in front of it the rest is lent
+    let rest = chain.window(alloc, place, most)?;
+    let length = region_length(rest.as_slice()) as u32;
     Ok(place + length)
 }
 
@@ -64,11 +62,9 @@ fn plan_between(
     ensures same { chain.new ≡ chain.old }
 {
     chain.move_gap(end)?;
-    // with the gap at its end the region stands in one piece
-    let Some(insns) = chain.window(place, end) else {
-        return Err(Memory);
-    };
-    plan_of(alloc, desc, pipe, insns)
+    // with the gap at its end the region is lent
+    let insns = chain.window(alloc, place, end)?;
+    plan_of(alloc, desc, pipe, insns.as_slice())
 }
 
 /// Puts the region at a place in its new order, if it is equated with that, and appends its cycles.
@@ -125,7 +121,7 @@ pub fn schedule(
     let mut cycles = Items::new(alloc);
     let mut place: u32 = 0;
     while (place as usize) < chain.len() {
-        let end = region_end(&mut chain, place)?;
+        let end = region_end(alloc, &mut chain, place)?;
         if end == place {
             place += 1;
         } else {

@@ -66,7 +66,7 @@ fn cycles_in(
 }
 
 /// The instructions of a region in the order in which a pipeline takes them.
-#[tactic(auto, using(crate::proofs::PlanLaws::cycles_long, crate::proofs::PlanLaws::order_within, crate::proofs::PlanLaws::is_plan, crate::proofs::PlanLaws::order_long))]
+#[tactic(auto, using(crate::proofs::PlanLaws::cycles_long, crate::proofs::PlanLaws::order_within, crate::proofs::PlanLaws::is_plan))]
 pub fn plan_of(
     alloc: Global,
     desc: &Description,

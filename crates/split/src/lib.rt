@@ -6,10 +6,12 @@
 //! follow from one another. It is told which pass it is: before registers have homes new pseudo
 //! registers may be made, and a sequence that names a hard register other than those of arguments
 //! counts as that of a form that fails. `specs/Left.antt` says what it leaves of a function.
+//! [`first_split`] tells the first form that splits an instruction, and what it emits.
 #![tactic(auto)]
 
 mod form;
 mod homes;
 mod pass;
 
+pub use form::{FormSplit, first_split};
 pub use pass::split;

@@ -13,7 +13,6 @@ use Rattle.md_dfa.specs.declared.pipeline.Pipeline.{Pipeline}
 use Rattle.pipe_uses.specs.Takes.{Takes}
 use Rattle.schedule.specs.declared.plan.CycleOf.{CycleOf}
 use Rattle.schedule.specs.declared.plan.Plan.{Plan}
-use Rattle.schedule.specs.Schedule.{ScheduledFrom}
 
 -- jobs are those of some instructions
 pub record AreJobsOf (forms : List Entry) (pipeline : Pipeline) (insns : List Insn) (jobs : List Job) :
@@ -38,9 +37,3 @@ pub record Stayed (f : Function) (place end : ℕ) (p : Plan) (before : List Cyc
 
 abbrev pub IsDone : Function → ℕ → ℕ → Plan → List CycleOf → Function → List CycleOf → Type 0
 IsDone f place end p before g now = Went f place end p before g now ⊎ Stayed f place end p before g now
-
--- what comes of the rest from a place on comes of all
-abbrev pub LeadsFrom : List Entry → Pipeline → ℕ → Function → List CycleOf → ℕ → Function → List CycleOf → Type 0
-LeadsFrom forms pipeline from f before place g now = (h : Function) (cycles : List CycleOf) →
-    ScheduledFrom forms pipeline place g cycles h →
-    (all : List CycleOf) × (before ++ all ≡ now ++ cycles) × ScheduledFrom forms pipeline from f all h

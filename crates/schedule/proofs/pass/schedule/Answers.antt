@@ -2,11 +2,11 @@ use Rattle.std.proofs.Common.{◌≡◌, ◌+◌, ◌<◌, ◌≤◌, [], length
 use Rattle.rtx_tree.specs.declared.function.Function.{Function}
 use Rattle.new_insns.specs.Replaced.{window}
 use Rattle.schedule.specs.Schedule.{region_end, IsPlan, IsPlanned, Scheduled}
-use Rattle.schedule.specs.machine.Made.{IsDone, LeadsFrom}
+use Rattle.schedule.specs.machine.Made.{IsDone}
 use Rattle.schedule.proofs.OneLaws.{scheduled_one}
 use Rattle.schedule.proofs.PlanLaws.{plans_keep}
 use Rattle.schedule.proofs.DoesLaws.{schedule_does}
-use Rattle.schedule.proofs.StepLaws.{leads_past, leads_done, ends_there, done_long}
+use Rattle.schedule.proofs.StepLaws.{LeadsFrom, leads_past, leads_done, ends_there, done_long}
 use Rattle.schedule.proofs.pass.schedule.Goals as goal
 
 pub returns-in_err-end-clause-one : goal.returns-in_err-end-clause-one

@@ -1,6 +1,6 @@
 -- What comes of the rest from the place on comes of the function from its beginning.
 use Rattle.std.proofs.Common.{[], ◌-◌, length}
-use Rattle.schedule.specs.machine.Made.{LeadsFrom}
+use Rattle.schedule.proofs.StepLaws.{LeadsFrom}
 use Rattle.schedule.proofs.pass.schedule.Given as goal
 
 abbrev pub invariant-loop-place : goal.invariant-loop-place

@@ -146,13 +146,13 @@ module _ (constants : List Constant) where
     draft_by_hard None ts = tt
     draft_by_hard (Some h) ts = draft_hard h ts
 
-    headed_hard : (text : List ℕ) (ts : List Tree) → OnOk DraftHard (headed constants values text ts).draft
+    headed_hard : (text : List ℕ) (t : Tree) → OnOk DraftHard (headed constants values text t).draft
     unfolding headed
-    headed_hard text ts = draft_by_hard (head_named text) ts
+    headed_hard text t = draft_by_hard (head_named text) (items_of t)
 
-    entry_hard : (o : Option (List ℕ)) (ts : List Tree) → OnOk DraftHard (entry_by constants values o ts).draft
-    entry_hard None ts = tt
-    entry_hard (Some text) ts = headed_hard text ts
+    entry_hard : (o : Option (List ℕ)) (t : Tree) → OnOk DraftHard (entry_by constants values o t).draft
+    entry_hard None t = tt
+    entry_hard (Some text) t = headed_hard text t
 
 -- ---- forms
 
@@ -183,7 +183,7 @@ drafts_hard : (constants : List Constant) (forms : List Instance) →
     AllByRecursion (λ (e : DraftEntry). OnOk DraftHard e.draft) (map (draft_entry constants) forms)
 drafts_hard constants [] = tt
 drafts_hard constants (f ∷ forms) = (
-  entry_hard constants f.conditions (head_in (items_of f.tree)) (items_of f.tree),
+  entry_hard constants f.conditions (head_in (items_of f.tree)) f.tree,
   drafts_hard constants forms,
 )
 

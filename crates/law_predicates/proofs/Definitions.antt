@@ -68,7 +68,7 @@ module _ (constants : List Constant) (form : Instance) where
   head_is = by_text (head_in trees)
     where
       by_text : (o : Option (List ℕ)) →
-          head_named (entry_by constants form.conditions o trees).head
+          head_named (entry_by constants form.conditions o form.tree).head
           ≡ option_and_then head_named o
       by_text None = refl
       by_text (Some text) = refl
@@ -78,7 +78,7 @@ module _ (constants : List Constant) (form : Instance) where
   name_is = by_text (head_in trees)
     where
       by_text : (o : Option (List ℕ)) →
-          (entry_by constants form.conditions o trees).name ≡ name_in trees
+          (entry_by constants form.conditions o form.tree).name ≡ name_in trees
       by_text None = refl
       by_text (Some text) = refl
 
@@ -89,7 +89,7 @@ module _ (constants : List Constant) (form : Instance) where
     draft_is is = by_text (head_in trees) is
       where
         by_text : (o : Option (List ℕ)) → option_and_then head_named o ≡ Some h →
-            (entry_by constants form.conditions o trees).draft
+            (entry_by constants form.conditions o form.tree).draft
             ≡ draft_in constants form.conditions h trees
         by_text None e = absurd (no_some h e)
         by_text (Some text) e =

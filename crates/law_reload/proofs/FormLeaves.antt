@@ -147,15 +147,15 @@ module _ (constants : List Constant) where
     draft_by_leaves None ts = tt
     draft_by_leaves (Some h) ts = draft_leaves h ts
 
-    headed_leaves : (text : List ℕ) (ts : List Tree) → OnOk DraftLeaves
-        (headed constants values text ts).draft
+    headed_leaves : (text : List ℕ) (t : Tree) → OnOk DraftLeaves
+        (headed constants values text t).draft
     unfolding headed
-    headed_leaves text ts = draft_by_leaves (head_named text) ts
+    headed_leaves text t = draft_by_leaves (head_named text) (items_of t)
 
-    entry_leaves : (o : Option (List ℕ)) (ts : List Tree) →
-        OnOk DraftLeaves (entry_by constants values o ts).draft
-    entry_leaves None ts = tt
-    entry_leaves (Some text) ts = headed_leaves text ts
+    entry_leaves : (o : Option (List ℕ)) (t : Tree) →
+        OnOk DraftLeaves (entry_by constants values o t).draft
+    entry_leaves None t = tt
+    entry_leaves (Some text) t = headed_leaves text t
 
 -- ---- forms
 
@@ -190,7 +190,7 @@ drafts_leaves : (constants : List Constant) (forms : List Instance) →
     (map (draft_entry constants) forms)
 drafts_leaves constants [] = tt
 drafts_leaves constants (f ∷ forms) = (
-  entry_leaves constants f.conditions (head_in (items_of f.tree)) (items_of f.tree),
+  entry_leaves constants f.conditions (head_in (items_of f.tree)) f.tree,
   drafts_leaves constants forms,
 )
 

@@ -32,7 +32,7 @@ jobs_push before latencies (x ∷ insns) (u ∷ taken) i t same =
     let fronts : (before ++ x ∷ []) ++ insns ≡ before ++ (x ∷ insns) = append_assoc before (x ∷ []) insns in
     let lats : (latencies ++ u.latency ∷ []) ++ latencies_of taken ≡ latencies ++ (u.latency ∷ latencies_of taken) = append_assoc latencies (u.latency ∷ []) (latencies_of taken) in
     let here : job_of ((before ++ x ∷ []) ++ insns) ((latencies ++ u.latency ∷ []) ++ latencies_of taken) i t.ways ≡ job_of (before ++ (x ∷ insns)) (latencies ++ (u.latency ∷ latencies_of taken)) i t.ways =
-        ap (λ (b : List Insn). job_of b ((latencies ++ u.latency ∷ []) ++ latencies_of taken) i t.ways) fronts ∙ ap (λ (l : List ℕ). job_of (before ++ (x ∷ insns)) l i t.ways) lats in
+    ap (λ (b : List Insn). job_of b ((latencies ++ u.latency ∷ []) ++ latencies_of taken) i t.ways) fronts ∙ ap (λ (l : List ℕ). job_of (before ++ (x ∷ insns)) l i t.ways) lats in
     ap (λ (js : List Job). job_of before latencies x u.ways ∷ js) (rest ∙ ap (λ (j : Job). jobs_behind (before ++ x ∷ []) (latencies ++ u.latency ∷ []) insns taken ++ j ∷ []) here)
 
 -- what a loop over instructions knows

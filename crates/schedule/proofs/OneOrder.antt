@@ -47,8 +47,8 @@ module _ (jobs : List Job) where
       let cycles_same : other_cycle ≡ cycle = one_cycle s j other_cycle cycle other_way way slot_there slot in
       let ways_same : other_way ≡ way = one_way s j other_cycle cycle other_way way slot_there slot in
       let state : placed_at s l other_cycle other_way ≡ placed_at s k cycle way =
-          ap (λ (p : ℕ). placed_at s p other_cycle other_way) places
-          ∙ (ap (λ (n : ℕ). placed_at s k n other_way) cycles_same ∙ ap (λ (w : Way). placed_at s k cycle w) ways_same) in
+      ap (λ (p : ℕ). placed_at s p other_cycle other_way) places
+      ∙ (ap (λ (n : ℕ). placed_at s k n other_way) cycles_same ∙ ap (λ (w : Way). placed_at s k cycle w) ways_same) in
       places_one (placed_at s k cycle way) cycles other_cycles rest (subst (λ (t : Placed). Places jobs t other_cycles) state rest_too)
 
   pub cycles_one : (c d : List ℕ) → AreCycles jobs c → AreCycles jobs d → c ≡ d

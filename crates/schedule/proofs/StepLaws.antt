@@ -42,13 +42,13 @@ module _ (forms : List Entry) (p : Pipeline) (f : Function) where
       → LeadsFrom forms p 0 f [] place g now → LeadsFrom forms p 0 f [] end k new
   leads_done place end g k plan now new planned is (inl went) so_far = λ h cycles rest.
       let there : ScheduledFrom forms p (region_end g place) (put_in g place plan) cycles h =
-          subst (λ (n : ℕ). ScheduledFrom forms p n (replaced g place n plan.insns) cycles h) is (subst (λ (q : Function). ScheduledFrom forms p end q cycles h) went.function rest) in
+      subst (λ (n : ℕ). ScheduledFrom forms p n (replaced g place n plan.insns) cycles h) is (subst (λ (q : Function). ScheduledFrom forms p end q cycles h) went.function rest) in
       let put = subst (λ (n : ℕ). IsPut g place n plan.insns) is went.put in
       let all = so_far h (plan.cycles ++ cycles) (ScheduledFrom.goes place g h cycles plan planned put there) in
       (all.0, all.1 ∙ (sym (append_assoc now plan.cycles cycles) ∙ ap (λ (l : List CycleOf). l ++ cycles) (sym went.cycles)), all.2)
   leads_done place end g k plan now new planned is (inr stayed) so_far = λ h cycles rest.
       let there : ScheduledFrom forms p (region_end g place) g cycles h =
-          subst (λ (n : ℕ). ScheduledFrom forms p n g cycles h) is (subst (λ (q : Function). ScheduledFrom forms p end q cycles h) stayed.function rest) in
+      subst (λ (n : ℕ). ScheduledFrom forms p n g cycles h) is (subst (λ (q : Function). ScheduledFrom forms p end q cycles h) stayed.function rest) in
       let other = λ (put : IsPut g place (region_end g place) plan.insns). stayed.other (subst (λ (n : ℕ). IsPut g place n plan.insns) (sym is) put) in
       let all = so_far h cycles (ScheduledFrom.stays place g h cycles plan planned other there) in
       (all.0, all.1 ∙ ap (λ (l : List CycleOf). l ++ cycles) (sym stayed.cycles), all.2)

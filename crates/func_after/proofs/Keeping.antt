@@ -153,9 +153,10 @@ module _ (forms : List Entry) where
 
   schedule_does_placed : (f g : Function) (cycles : List CycleOf) → ArePlaced f → orders.Scheduled forms (pipeline_in forms) f cycles g → Keeps f g × ArePlaced g
   schedule_does_placed f g cycles placed comes =
-      let lawful = pipeline_lawful forms in
-      (schedule_does forms (pipeline_in forms) lawful f g cycles (placed_marks f placed) (placed_registers f placed) comes,
-      each_kept forms (pipeline_in forms) lawful IsInsnPlaced f g cycles comes placed)
+      let lawful = pipeline_lawful forms in (
+        schedule_does forms (pipeline_in forms) lawful f g cycles (placed_marks f placed) (placed_registers f placed) comes,
+        each_kept forms (pipeline_in forms) lawful IsInsnPlaced f g cycles comes placed,
+      )
 
   schedule_keeps : Behind Schedule
   schedule_keeps = behind_by Schedule (λ is. cc) (λ is. cc) (λ f c placed comes. let made = schedule_by forms f c (Ok c) refl comes in schedule_does_placed f c.function made.0 placed made.1)

@@ -15,8 +15,7 @@ use Rattle.law_kept_composed.proofs.Keeping.{keeps_refl, keeps_trans}
 use Rattle.law_pass_needs.proofs.Places.{at_place}
 use Rattle.law_window_put.proofs.Does.{window_does}
 use Rattle.schedule.specs.declared.plan.CycleOf.{CycleOf}
-use Rattle.schedule.specs.declared.plan.Plan.{Plan}
-use Rattle.schedule.specs.Schedule.{region_end, IsPlanned, GoesIn, put_in, Scheduled}
+use Rattle.schedule.specs.Schedule.{region_end, put_in, Scheduled}
 use Rattle.law_insn_replaced.specs.law_window_lines.ForLines.{MarksAreEmpty}
 use Rattle.law_window_replaced.specs.Natural.{RegistersAreNatural}
 use Rattle.schedule.proofs.KeptLaws.{StaysPut, kept, each_put}

@@ -1,11 +1,11 @@
 -- The jobs of instructions: one more.
 use Rattle.std.proofs.Common.{◌≡◌, ℕ, ◌+◌, ◌<◌, ◌≤◌, List, [], ◌∷◌, ◌++◌, map, take, length, get_or, append_assoc, refl, sym, ap, subst, ◌∙◌, arith}
-use Rattle.std.specs.List.{AllZip, AllByRecursion}
+use Rattle.std.specs.List.{AllZip}
 use Rattle.std.proofs.lemmas.List.{append-nil, take_more, take_all, length-map}
 use Rattle.rtx_tree.specs.declared.function.Insn.{Insn}
 use Rattle.job_order.specs.declared.job.Job.{Job}
 use Rattle.region_jobs.specs.declared.taken.Taken.{Taken}
-use Rattle.region_jobs.specs.Jobs.{asks_from, job_of, jobs_behind, jobs_of}
+use Rattle.region_jobs.specs.Jobs.{job_of, jobs_behind, jobs_of}
 use Rattle.region_jobs.specs.Kept.{IsTaken}
 use Rattle.region_jobs.proofs.JobLaws.{make_jobs}
 use Rattle.job_order.specs.Jobs.{AreJobs}

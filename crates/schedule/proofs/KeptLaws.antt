@@ -1,12 +1,11 @@
 -- What is kept while regions are put in order.
-use Rattle.std.proofs.Common.{◌≡◌, ℕ, ◌+◌, ◌-◌, ◌<◌, ◌≤◌, true, false, List, [], ◌∷◌, ◌++◌, take, drop, length, Some, refl, sym, ap, subst, ◌∙◌, arith}
-use Rattle.std.specs.Prelude.{slice_get}
+use Rattle.std.proofs.Common.{ℕ, ◌+◌, ◌-◌, ◌≤◌, List, ◌++◌, take, drop, length, refl}
 use Rattle.std.specs.List.{AllByRecursion}
 use Rattle.std.proofs.lemmas.List.Elements.{All-from_recursion, recursion_from_All}
 use Rattle.std.proofs.lemmas.List.Sorted.{All-permutation}
 use Rattle.rtx_tree.specs.declared.function.Insn.{Insn}
 use Rattle.rtx_tree.specs.declared.function.Function.{Function}
-use Rattle.new_insns.specs.Replaced.{window, replaced}
+use Rattle.new_insns.specs.Replaced.{window}
 use Rattle.md_forms.specs.declared.form.Entry.{Entry}
 use Rattle.md_dfa.specs.Lawful.{AreLawful}
 use Rattle.md_dfa.specs.declared.pipeline.Pipeline.{Pipeline}

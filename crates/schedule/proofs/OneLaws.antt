@@ -1,11 +1,9 @@
 -- A function with its regions in order is one, and so are the cycles that are told.
-use Rattle.std.proofs.Common.{◌≡◌, ℕ, ◌+◌, ◌<◌, ◌≤◌, List, [], ◌∷◌, ◌++◌, drop, length, refl, sym, ap, subst, ◌∙◌, arith}
-use Rattle.std.specs.List.{AllZip}
+use Rattle.std.proofs.Common.{◌≡◌, ℕ, ◌+◌, ◌<◌, ◌≤◌, List, ◌++◌, drop, length, refl, sym, ap, subst, ◌∙◌, arith}
 use Rattle.std.proofs.lemmas.List.{length-drop}
 use Rattle.rtx_tree.specs.declared.function.Insn.{Insn}
 use Rattle.rtx_tree.specs.declared.function.Function.{Function}
 use Rattle.new_insns.specs.Replaced.{window}
-use Rattle.job_order.specs.declared.job.Job.{Job}
 use Rattle.job_order.specs.Order.{AreCycles, IsOrder}
 use Rattle.law_order.specs.Ordered.{in_order}
 use Rattle.region_jobs.specs.declared.taken.Taken.{Taken}

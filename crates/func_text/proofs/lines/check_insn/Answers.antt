@@ -15,11 +15,11 @@ returns-in-Some c =
     let needs : needs_form c.args.insn.now ≡ true = search rules in
     let chosen = c.in-Some.field-0 in (
       line_of (names_of c.args.desc.now) c.args.function.now c.args.insn.now.uid chosen.form chosen.alternative,
-      OutputComes.chosen chosen needs (subst (λ f. IsChosen c.args.desc.now f c.args.insn.now.pattern chosen) c.output_facts.ensures ((c.in_ok-chosen.ensures.chosen chosen).0 c.in-Some.is)),
+      OutputComes.chosen chosen needs (subst (λ f. IsChosen c.args.desc.now f c.args.insn.now.pattern chosen) c.output_facts.ensures ((c.in_ok-recog_out.ensures.chosen chosen).0 c.in-Some.is)),
     )
 
 pub returns : goal.returns
 returns c =
     let needs : needs_form c.args.insn.now ≡ true = search rules in
     told_unmatched Output c.args.function.now c.args.insn.now c.in_ok-unmatched-in-None.field-0 (OutputComes c.args.desc.now c.args.function.now c.args.insn.now) c.in_ok-unmatched-in-None.ensures
-    (OutputComes.unmatched needs (subst (λ f. NoneMatchesOut c.args.desc.now f c.args.insn.now.pattern) c.output_facts.ensures (c.in_ok-chosen.ensures.none c.in-None.is)))
+    (OutputComes.unmatched needs (subst (λ f. NoneMatchesOut c.args.desc.now f c.args.insn.now.pattern) c.output_facts.ensures (c.in_ok-recog_out.ensures.none c.in-None.is)))

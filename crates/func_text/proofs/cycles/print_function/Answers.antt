@@ -10,7 +10,7 @@ returns-in_err-made c =
 
 pub returns-in_err-check_insns : goal.returns-in_err-check_insns
 returns-in_err-check_insns c =
-    let p = err_from_is_err_and c.from_residual.result c.from_residual.ensures.1 in
+    let p = err_from_is_err_and c.from_residual-in_err-check_insns.result c.from_residual-in_err-check_insns.ensures.1 in
     rw (p.1, p.2)
     (form_refuses c.args.desc.now c.args.f.now c.in_ok-made.made c.in_ok-ordered.ordered c.in_ok-ordered.cycles c.in_ok-made.ensures.gives
     (rw c.pipeline.ensures.is_of at c.in_ok-ordered.ensures.scheduled) c.in_err-check_insns.field-0.0

@@ -1,10 +1,36 @@
 //! Numbers of 8, 16, 32 and 64 bits.
-use bits64::{
-    Width, add, div, lt, ltu, mul, mulh, mulhsu, mulhu, rem, sar, sext, shl, shr, sub, trunc, udiv,
-    urem, zext,
-};
+use bits64::{Opaque, Operator, Relation, Width, sext, trunc, zext};
 use case_text::Told;
 use std::str;
+
+/// The operators by their names, but for those of which nothing is known but their numbers.
+const OPERATORS: [(&str, Operator); 11] = [
+    ("add", Operator::Add),
+    ("sub", Operator::Sub),
+    ("neg", Operator::Neg),
+    ("not", Operator::Not),
+    ("mul", Operator::Mul),
+    ("and", Operator::And),
+    ("ior", Operator::Ior),
+    ("xor", Operator::Xor),
+    ("shl", Operator::Shl),
+    ("shr", Operator::Shr),
+    ("sar", Operator::Sar),
+];
+
+/// The comparisons by their names.
+const RELATIONS: [(&str, Relation); 10] = [
+    ("eq", Relation::Eq),
+    ("ne", Relation::Ne),
+    ("lt", Relation::Lt),
+    ("gt", Relation::Gt),
+    ("le", Relation::Le),
+    ("ge", Relation::Ge),
+    ("ltu", Relation::Ltu),
+    ("gtu", Relation::Gtu),
+    ("leu", Relation::Leu),
+    ("geu", Relation::Geu),
+];
 
 fn width_of(text: &str) -> Option<Width> {
     match text {
@@ -16,36 +42,42 @@ fn width_of(text: &str) -> Option<Width> {
     }
 }
 
+/// The operator with a name.
+fn operator_of(name: &str) -> Option<Operator> {
+    for (known, operator) in OPERATORS {
+        if known == name {
+            return Some(operator);
+        }
+    }
+    for opaque in Opaque::all() {
+        if opaque.name() == name {
+            return Some(Operator::Opaque(*opaque));
+        }
+    }
+    None
+}
+
 /// The number that an operation gives, if it gives one.
 fn number_of(operation: &str, a: u64, b: u64, w: Width) -> Option<u64> {
-    Some(match operation {
-        "trunc" => trunc(a, w),
-        "zext" => zext(a, w),
-        "sext" => sext(a, w),
-        "add" => add(a, b, w),
-        "sub" => sub(a, b, w),
-        "mul" => mul(a, b, w),
-        "mulh" => mulh(a, b, w),
-        "mulhu" => mulhu(a, b, w),
-        "mulhsu" => mulhsu(a, b, w),
-        "div" => div(a, b, w),
-        "rem" => rem(a, b, w),
-        "udiv" => udiv(a, b, w),
-        "urem" => urem(a, b, w),
-        "shl" => shl(a, b, w),
-        "shr" => shr(a, b, w),
-        "sar" => sar(a, b, w),
-        _ => return None,
-    })
+    match operation {
+        "trunc" => Some(trunc(a, w)),
+        "zext" => Some(zext(a, w)),
+        "sext" => Some(sext(a, w)),
+        name => match operator_of(name) {
+            Some(operator) => Some(operator.number(w, a, b)),
+            None => None,
+        },
+    }
 }
 
 /// Whether a comparison holds, if it is one.
-fn holds(operation: &str, a: u64, b: u64, w: Width) -> Option<bool> {
-    match operation {
-        "lt" => Some(lt(a, b, w)),
-        "ltu" => Some(ltu(a, b, w)),
-        _ => None,
+fn holds(name: &str, a: u64, b: u64, w: Width) -> Option<bool> {
+    for (known, relation) in RELATIONS {
+        if known == name {
+            return Some(relation.holds(w, a, b));
+        }
     }
+    None
 }
 
 /// Appends what an operation gives.

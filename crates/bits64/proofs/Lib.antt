@@ -1,3 +1,4 @@
 pub mod Readings
 pub mod Products
 pub mod Quotients
+pub mod Operators

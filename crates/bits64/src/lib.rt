@@ -4,6 +4,9 @@
 //! has, signed or unsigned as its name says, and its contract says which number it returns. Every
 //! operation is total: it answers at every word, zero divisors and shift counts past the width
 //! included, and it takes no memory.
+//!
+//! An [`Operator`] is such an operation by its name: codes, lines and terms name operators. Its
+//! number has no more bits than the width.
 #![tactic(auto)]
 
 ghost use Rattle.std.specs.Prelude.{◌≡◌, ◌+◌, ◌-◌, ◌*◌, ◌%◌, ◌^◌, ◌<◌, ◌≤◌, pos, ◌+ℤ◌, ◌-ℤ◌, ◌*ℤ◌, int_div, int_rem};
@@ -12,6 +15,10 @@ ghost use Rattle.bits64.specs.Words.{bits_of, bytes_of, low, signed, wrapped, si
 ghost use Rattle.bits64.specs.Words.{sum_of, difference_of, product_of, high_signed, high_unsigned, high_mixed};
 ghost use Rattle.bits64.specs.Words.{DivisionOverflows, quotient_signed, quotient_unsigned, remainder_signed, remainder_unsigned};
 ghost use Rattle.bits64.specs.Words.{shifted_left, shifted_right, shifted_arithmetic, less_signed, less_unsigned};
+
+mod operator;
+
+pub use operator::{Asks, Opaque, Operator, Relation, Taking, lacks};
 
 /// How many bits of a word are meant.
 #[derive(Clone, Copy, Debug)]

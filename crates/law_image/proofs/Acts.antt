@@ -4,6 +4,8 @@ use Rattle.std.specs.Prelude.{◌-ℤ◌, slice_get}
 use Rattle.std.specs.Int.{cast_unsigned, w64}
 use Rattle.std.proofs.lemmas.Bool.{false≢true}
 use Rattle.std.proofs.lemmas.Int.{ints}
+use Rattle.bits64.specs.declared.Width.TheVariants.{W64}
+use Rattle.bits64.specs.Operators.{holds}
 use Rattle.long_branches.specs.Branches.{Reaches, IsClosed}
 use Rattle.rtx_tree.specs.declared.machine.World.{World}
 use Rattle.rtx_tree.specs.declared.memories.MemByte.{MemByte}
@@ -15,7 +17,7 @@ use Rattle.rv_text.specs.declared.action.Action.{Action}
 use Rattle.rv_text.specs.declared.action.Action.TheVariants.{Compute, Load, Store, SymbolAddress, Branch, Jump, Call, CallRegister, Return}
 use Rattle.rv_text.specs.declared.mnemonic.Mnemonic.{Mnemonic}
 use Rattle.rv_line.specs.Run.{args_of}
-use Rattle.rv_line.specs.Step.{with_register, source_value, of_both, compares, register_call_end, return_end, set_rd, computed, loaded, set_memory, stored, register, branch_end, act}
+use Rattle.rv_line.specs.Step.{with_register, source_value, of_both, register_call_end, return_end, set_rd, computed, loaded, set_memory, stored, register, branch_end, act}
 use Rattle.rv_line.specs.declared.state.RvState.{RvState}
 use Rattle.rv_line.specs.declared.state.LineEnd.{LineEnd}
 use Rattle.rv_line.specs.declared.state.LineEnd.TheVariants.{Next, Jumped, Called, Returned, Stuck}
@@ -115,7 +117,7 @@ branch_does (Compute operation w left right) world line state is = absurd (false
 branch_does (Load w extension) world line state is = absurd (false≢true is)
 branch_does (Store w) world line state is = absurd (false≢true is)
 branch_does SymbolAddress world line state is = absurd (false≢true is)
-branch_does (Branch comparison left right) world line state is = record { taken = of_both (compares comparison) (source_value state line left) (source_value state line right); is = refl }
+branch_does (Branch relation left right) world line state is = record { taken = of_both (holds relation W64) (source_value state line left) (source_value state line right); is = refl }
 branch_does Jump world line state is = absurd (false≢true is)
 branch_does Call world line state is = absurd (false≢true is)
 branch_does CallRegister world line state is = absurd (false≢true is)

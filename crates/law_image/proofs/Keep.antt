@@ -3,6 +3,7 @@ use Rattle.std.proofs.Common.{◌≡◌, ℕ, zero, suc, ℤ, pos, negsuc, ◌+�
 use Rattle.std.specs.Prelude.{slice_get, slice_set, option_and_then}
 use Rattle.std.proofs.lemmas.Bool.Decides.{nat_tests}
 use Rattle.bits64.specs.Words.{signed, wrapped}
+use Rattle.bits64.specs.Operators.{number}
 use Rattle.bits64.specs.declared.Width.{Width}
 use Rattle.bits64.specs.declared.Width.TheVariants.{W8, W16, W32, W64}
 use Rattle.rtx_tree.specs.Registers.{is_call_used}
@@ -16,7 +17,7 @@ use Rattle.rv_text.specs.declared.action.Action.TheVariants.{Compute, Load, Stor
 use Rattle.rv_text.specs.declared.action.Extension.{Extension}
 use Rattle.rv_text.specs.declared.action.Extension.TheVariants.{Sign, Zero}
 use Rattle.rtx_tree.specs.declared.memories.MemByte.{MemByte}
-use Rattle.rv_line.specs.Step.{register, with_register, source_value, of_both, computed, extended, loaded, stored, place_of, result_of, set_rd, set_memory, act}
+use Rattle.rv_line.specs.Step.{register, with_register, source_value, of_both, computed, extended, loaded, stored, place_of, set_rd, set_memory, act}
 use Rattle.rv_line.specs.Run.{left_from, after_call}
 use Rattle.rv_line.specs.declared.state.RvState.{RvState}
 use Rattle.rv_word.specs.Step.{HoldsWords}
@@ -133,7 +134,7 @@ memory_holds state (Some memory) holds = record { count = holds.count; words = h
 
 pub act_holds : (action : Action) (world : World) (line : Line) (state : RvState) → Holds state → (action ≡ SymbolAddress → Fit (symbol_address world.symbols line.target)) → Holds (act action world line state).1
 act_holds (Compute operation w left right) world line state holds known =
-    rd_holds state line (of_both (computed operation w) (source_value state line left) (source_value state line right)) holds (both_fit (computed operation w) (λ a b. wrapped_fits (signed w (result_of operation w a b))) (source_value state line left) (source_value state line right))
+    rd_holds state line (of_both (computed operation w) (source_value state line left) (source_value state line right)) holds (both_fit (computed operation w) (λ a b. wrapped_fits (signed w (number operation w a b))) (source_value state line left) (source_value state line right))
 act_holds (Load w extension) world line state holds known =
     rd_holds state line (loaded w extension state line) holds (and_then_fits (λ address. option_map (extended extension w) (load w state.memory address)) (λ address. map_fits (extended extension w) (extended_fits extension w) (load w state.memory address)) (place_of state line))
 act_holds (Store w) world line state holds known = memory_holds state (stored w state line) holds

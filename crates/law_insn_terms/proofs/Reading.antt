@@ -1,11 +1,17 @@
 -- What an expression needs of registers: each that it needs stands in it, and was not changed before.
 use Rattle.std.proofs.lemmas.Bool.Decides.{nat_tests}
-use Rattle.std.proofs.Common.{◌≡◌, ℕ, zero, suc, ◌==◌, ◌&&◌, not, Bool, true, false, List, [], ◌∷◌, ◌++◌, map, Option, Some, None, refl, sym, ◌∙◌, ap, subst, arith}
+use Rattle.std.proofs.Common.{◌≡◌, ℕ, zero, suc, ◌==◌, Bool, true, false, List, [], ◌∷◌, ◌++◌, map, Option, Some, None, refl, sym, ◌∙◌, ap, subst, arith}
 use Rattle.std.specs.Prelude.{ℤ, is_some, if◌then◌else◌}
 use Rattle.std.specs.Int.{cast_unsigned, w64}
 use Rattle.std.specs.List.{list_all, list_any, AllByRecursion}
 use Rattle.bits64.specs.declared.Width.{Width}
 use Rattle.bits64.specs.declared.Width.TheVariants.{W64}
+use Rattle.bits64.specs.declared.operator.Operator.{Operator}
+use Rattle.bits64.specs.declared.operator.Relation.{Relation}
+use Rattle.bits64.specs.declared.operator.Asks.{Asks}
+use Rattle.bits64.specs.declared.operator.Asks.TheVariants.{Nothing, SecondNonzero}
+use Rattle.bits64.specs.Operators.{asks_of}
+use Rattle.term_tree.specs.declared.head.Head.{Head}
 use Rattle.rtx_tree.specs.Code.{class_of_code}
 use Rattle.rtx_tree.specs.Tree.{is_reg_numbered, mentions_step, mentions_reg}
 use Rattle.rtx_tree.specs.declared.class.Class.{Class}
@@ -15,7 +21,7 @@ use Rattle.rtx_tree.specs.declared.code.Code.TheVariants as code
 use Rattle.rtx_tree.specs.declared.tree.Rtx.{Rtx, roll-Rtx}
 use Rattle.rtx_tree.specs.declared.tree.Rtx.TheFolds.{fold-roll-Rtx, ind-Rtx, map-Rtx}
 use Rattle.rtx_tree.specs.declared.tree.Rtx.TheOpen.{Rtx-F}
-use Rattle.rtl_step.specs.Value.{first_width, count_width}
+use Rattle.rtl_step.specs.Value.{first_width, count_width, operator_of, alone, counting, relation_in}
 use Rattle.term_tree.specs.Tree.{Tree, width_of}
 use Rattle.term_tree.specs.Form.{narrower}
 use Rattle.term_mean.specs.Stores.{Store}
@@ -23,7 +29,7 @@ use Rattle.term_mean.specs.Sums.{constant_in}
 use Rattle.sym_insns.specs.sym_state.State.{Changed, Need, Register, Lost, Access, Divisor, Symbol}
 use Rattle.sym_insns.specs.sym_state.Registers.{held, need_of, read_needs}
 use Rattle.sym_insns.specs.Value as spec
-use Rattle.sym_insns.specs.Value.{Reading}
+use Rattle.sym_insns.specs.Value.{Made, Reading}
 use Rattle.sym_insns.specs.Shape.{is_natural, natural_step, all_natural}
 use Rattle.law_insn_terms.proofs.Places.{same_number, IsNatural}
 use Rattle.law_insn_terms.proofs.Bools.{both_of, or_first, or_later}
@@ -103,33 +109,56 @@ module _ (regs : List Changed) (stores : List Store) (some : ℕ → Bool) where
   none_needs class.Symbol c n name w is natural own = (tt, tt)
   none_needs k c n name w is natural own = (tt, tt)
 
+  conversion_needs : (o : Option Head) (m : Made) (w : Width) → Needs m.needs → Needs (spec.of_conversion stores o w m).needs
+  conversion_needs None m w part = (tt, tt)
+  conversion_needs (Some h) m w part = part
+
   converted_needs : (o : Option Width) (c : Code) (m : Reading) (w : Width) → PartNeeds m → Needs (spec.of_converted stores o c m w).needs
   converted_needs None c m w part = (tt, tt)
-  converted_needs (Some own) c m w part = part own
+  converted_needs (Some own) c m w part = conversion_needs (spec.conversion_of c) (m.made own) w (part own)
+
+  operand_needs : (o : Option Operator) (m : Made) (w : Width) → Needs m.needs → Needs (spec.of_operand stores o w m).needs
+  operand_needs None m w part = (tt, tt)
+  operand_needs (Some o) m w part = part
 
   one_needs : (k : Class) (c : Code) (m : Reading) (w : Width) → PartNeeds m → Needs (spec.made_of_one stores k c m w).needs
   one_needs class.Memory c m w part = needs_joined regs some (m.made W64).needs (Access (m.made W64).term w ∷ []) (part W64) (tt, tt)
   one_needs class.Lowpart c m w part = part w
-  one_needs class.Unary c m w part = part w
+  one_needs class.Unary c m w part = operand_needs (alone (operator_of c)) (m.made w) w (part w)
   one_needs class.Extension c m w part = converted_needs m.width c m w part
   one_needs class.Truncation c m w part = converted_needs m.width c m w part
   one_needs k c m w part = (tt, tt)
 
-  divisor_is : (c : Code) (b : Tree) → Needs (spec.divisor_needs c b)
-  divisor_is c b = by (spec.divides c && not (spec.is_nonzero (constant_in b)))
+  divisor_is : (q : Asks) (b : Tree) → Needs (spec.divisor_needs q b)
+  divisor_is Nothing b = tt
+  divisor_is SecondNonzero b = by (spec.is_nonzero (constant_in b))
     where
-      by : (yes : Bool) → Needs (if yes then Divisor b ∷ [] else [])
-      by true = (tt, tt)
-      by false = tt
+      by : (nonzero : Bool) → Needs (if nonzero then [] else Divisor b ∷ [])
+      by true = tt
+      by false = (tt, tt)
+
+  operands_needs : (o : Option Operator) (a b : Made) (w : Width) → Needs a.needs → Needs b.needs → Needs (spec.of_operands stores o w a b).needs
+  operands_needs None a b w first second = (tt, tt)
+  operands_needs (Some o) a b w first second =
+      needs_joined regs some (a.needs ++ b.needs) (spec.divisor_needs (asks_of o) b.term) (needs_joined regs some a.needs b.needs first second) (divisor_is (asks_of o) b.term)
+
+  shifted_needs : (o : Option Operator) (a b : Made) (w : Width) → Needs a.needs → Needs b.needs → Needs (spec.of_shifted stores o w a b).needs
+  shifted_needs None a b w first second = (tt, tt)
+  shifted_needs (Some o) a b w first second = needs_joined regs some a.needs b.needs first second
+
+  related_needs : (o : Option Relation) (own : Width) (a b : Made) (w : Width) → Needs a.needs → Needs b.needs → Needs (spec.of_related stores o own w a b).needs
+  related_needs None own a b w first second = (tt, tt)
+  related_needs (Some r) own a b w first second = needs_joined regs some a.needs b.needs first second
 
   compared_needs : (o : Option Width) (c : Code) (a b : Reading) (w : Width) → PartNeeds a → PartNeeds b → Needs (spec.of_compared stores o c a b w).needs
   compared_needs None c a b w first second = (tt, tt)
-  compared_needs (Some own) c a b w first second = needs_joined regs some (a.made own).needs (b.made own).needs (first own) (second own)
+  compared_needs (Some own) c a b w first second =
+      related_needs (relation_in (operator_of c)) own (a.made own) (b.made own) w (first own) (second own)
 
   two_needs : (k : Class) (c : Code) (a b : Reading) (w : Width) → PartNeeds a → PartNeeds b → Needs (spec.made_of_two stores k c a b w).needs
-  two_needs class.Binary c a b w first second =
-      needs_joined regs some ((a.made w).needs ++ (b.made w).needs) (spec.divisor_needs c (b.made w).term) (needs_joined regs some (a.made w).needs (b.made w).needs (first w) (second w)) (divisor_is c (b.made w).term)
-  two_needs class.Shift c a b w first second = needs_joined regs some (a.made w).needs (b.made (count_width b.width)).needs (first w) (second (count_width b.width))
+  two_needs class.Binary c a b w first second = operands_needs (operator_of c) (a.made w) (b.made w) w (first w) (second w)
+  two_needs class.Shift c a b w first second =
+      shifted_needs (counting (operator_of c)) (a.made w) (b.made (count_width b.width)) w (first w) (second (count_width b.width))
   two_needs class.Comparison c a b w first second = compared_needs (first_width a.width b.width) c a b w first second
   two_needs k c a b w first second = (tt, tt)
 

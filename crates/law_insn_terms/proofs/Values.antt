@@ -4,8 +4,14 @@ use Rattle.std.specs.Prelude.{ℤ, if◌then◌else◌, option_map, option_and_t
 use Rattle.std.specs.Int.{cast_unsigned, w64}
 use Rattle.std.proofs.lemmas.List.Folds.{list_all-append}
 use Rattle.bits64.specs.declared.Width.{Width}
-use Rattle.bits64.specs.declared.Width.TheVariants.{W64}
-use Rattle.bits64.specs.Words.{low, quotient_signed, quotient_unsigned, remainder_signed, remainder_unsigned}
+use Rattle.bits64.specs.declared.Width.TheVariants.{W8, W16, W32, W64}
+use Rattle.bits64.specs.declared.operator.Operator.{Operator}
+use Rattle.bits64.specs.declared.operator.Relation.{Relation}
+use Rattle.bits64.specs.declared.operator.Asks.{Asks}
+use Rattle.bits64.specs.declared.operator.Asks.TheVariants.{Nothing, SecondNonzero}
+use Rattle.bits64.specs.Words.{low}
+use Rattle.bits64.specs.Operators.{number, holds, truth, lacks, asks_of}
+use Rattle.bits64.proofs.Operators.{below}
 use Rattle.rtx_tree.specs.Code.{class_of_code}
 use Rattle.rtx_tree.specs.declared.class.Class.{Class}
 use Rattle.rtx_tree.specs.declared.class.Class.TheVariants as class
@@ -20,13 +26,10 @@ use Rattle.run_memory.specs.RunMemory.{load}
 use Rattle.rtl_step.specs.Regs.{Regs, reg_value}
 use Rattle.rtl_step.specs.Value as rtl
 use Rattle.term_tree.specs.declared.head.Head.TheVariants as heads
-use Rattle.term_tree.specs.declared.head.Relation.{Relation}
-use Rattle.term_tree.specs.declared.head.Relation.TheVariants as relation
 use Rattle.term_tree.specs.Tree.{Tree, width_of}
 use Rattle.term_tree.specs.Form.{narrower}
 use Rattle.term_mean.specs.Meaning.{Valuation, mean}
 use Rattle.term_mean.specs.Stores.{Store}
-use Rattle.term_mean.specs.Relations.{holds}
 use Rattle.term_mean.specs.Sums.{constant, constant_in}
 use Rattle.term_mean.specs.Compared.{low_bits}
 use Rattle.term_mean.proofs.SumLaws.{mean-constant}
@@ -36,12 +39,12 @@ use Rattle.term_mean.proofs.NormalWidths.{width-built}
 use Rattle.sym_insns.specs.sym_state.State.{State, Need, own_register, own_symbol}
 use Rattle.sym_insns.specs.sym_state.State as state
 use Rattle.sym_insns.specs.sym_state.Registers.{held, read, term_held}
+use Rattle.sym_insns.specs.sym_state.Makers.{one, related, term_of}
 use Rattle.sym_insns.specs.Value as spec
 use Rattle.sym_insns.specs.Value.{Made, Reading}
 use Rattle.law_insn_terms.specs.Needs.{First, is_met, are_met, worth}
 use Rattle.law_insn_terms.specs.Shows.{IsOf, Shows}
 use Rattle.law_insn_terms.proofs.Operations as made
-use Rattle.law_insn_terms.proofs.Operations.{Makes}
 use Rattle.law_insn_terms.proofs.Parts.{register_worth, load_worth}
 
 module _ (v : Valuation) (f : First) where
@@ -71,16 +74,16 @@ module _ (v : Valuation) (f : First) where
       by false false = refl
 
   -- two operands, the second of which may be a divisor
-  worth_operands : (stores : List Store) (c : Code) (w : Width) (a b : Made) →
-      rtl.binary c w (mean v a.term) (mean v b.term) ≡ (if are_met v f (spec.divisor_needs c b.term) then Some (mean v (spec.binary stores c w a.term b.term)) else None) →
-      rtl.of_two (rtl.binary c w) (worth v f a) (worth v f b) ≡ worth v f (spec.of_operands stores c w a b)
-  worth_operands stores c w a b is =
+  worth_operands : (stores : List Store) (o : Operator) (w : Width) (a b : Made) →
+      rtl.operated o w (mean v a.term) (mean v b.term) ≡ (if are_met v f (spec.divisor_needs (asks_of o) b.term) then Some (mean v (term_of stores o w a.term b.term)) else None) →
+      rtl.of_two (rtl.operated o w) (worth v f a) (worth v f b) ≡ worth v f (spec.of_operands stores (Some o) w a b)
+  worth_operands stores o w a b is =
       by (are_met v f a.needs) (are_met v f b.needs)
-      ∙ ap (λ m. if m then Some (mean v (spec.binary stores c w a.term b.term)) else None)
-      (sym (both_met (a.needs ++ b.needs) (spec.divisor_needs c b.term) ∙ ap (λ m. m && are_met v f (spec.divisor_needs c b.term)) (both_met a.needs b.needs)))
+      ∙ ap (λ m. if m then Some (mean v (term_of stores o w a.term b.term)) else None)
+      (sym (both_met (a.needs ++ b.needs) (spec.divisor_needs (asks_of o) b.term) ∙ ap (λ m. m && are_met v f (spec.divisor_needs (asks_of o) b.term)) (both_met a.needs b.needs)))
     where
-      by : (x y : Bool) → rtl.of_two (rtl.binary c w) (if x then Some (mean v a.term) else None) (if y then Some (mean v b.term) else None) ≡
-          (if (x && y) && are_met v f (spec.divisor_needs c b.term) then Some (mean v (spec.binary stores c w a.term b.term)) else None)
+      by : (x y : Bool) → rtl.of_two (rtl.operated o w) (if x then Some (mean v a.term) else None) (if y then Some (mean v b.term) else None) ≡
+          (if (x && y) && are_met v f (spec.divisor_needs (asks_of o) b.term) then Some (mean v (term_of stores o w a.term b.term)) else None)
       by true true = is
       by true false = refl
       by false true = refl
@@ -88,33 +91,35 @@ module _ (v : Valuation) (f : First) where
 
   -- a divisor that is a constant other than 0, or that is not 0
   nonzero_low : (w : Width) (b : Tree) → width_of b ≡ w → low w (mean v b) ≡ mean v b
-  nonzero_low w b is = sym (made.below w (mean v b) (made.mean_below v w b is))
+  nonzero_low w b is = sym (below w (mean v b) (made.mean_below v w b is))
 
   and_true : (x : Bool) → (x && true) ≡ x
   and_true true = refl
   and_true false = refl
 
   divisor_met : (b : Tree) (c : Option ℕ) → constant_in b ≡ c →
-      are_met v f (if not (spec.is_nonzero c) then state.Divisor b ∷ [] else []) ≡ not (mean v b == 0)
+      are_met v f (if spec.is_nonzero c then [] else state.Divisor b ∷ []) ≡ not (mean v b == 0)
   divisor_met b None is = and_true (not (mean v b == 0))
   divisor_met b (Some c) is = by (c == 0) refl
     where
       number : mean v b ≡ c
       number = constant-is v b c is
 
-      by : (z : Bool) → (c == 0) ≡ z → are_met v f (if not (not z) then state.Divisor b ∷ [] else []) ≡ not (mean v b == 0)
+      by : (z : Bool) → (c == 0) ≡ z → are_met v f (if not z then [] else state.Divisor b ∷ []) ≡ not (mean v b == 0)
       by true e = and_true (not (mean v b == 0))
       by false e = sym (ap (λ n. not (n == 0)) number ∙ ap not e)
 
-  divided : (c : Code) (w : Width) (b : Tree) (quotient : ℕ) (t : Tree) → spec.divides c ≡ true → width_of b ≡ w → Makes v (Some quotient) t w →
-      rtl.by_nonzero w (mean v b) quotient ≡ (if are_met v f (spec.divisor_needs c b) then Some (mean v t) else None)
-  divided c w b quotient t divides is made =
-      ap (λ n. if n == 0 then None else Some quotient) (nonzero_low w b is)
+  -- a number is there where its second operand lacks nothing: where what it asks is met
+  asked : (q : Asks) (w : Width) (b : Tree) (m n : ℕ) → m ≡ n → width_of b ≡ w →
+      (if lacks q w (mean v b) then None else Some m) ≡ (if are_met v f (spec.divisor_needs q b) then Some n else None)
+  asked Nothing w b m n e is = ap Some e
+  asked SecondNonzero w b m n e is =
+      ap (λ k. if k == 0 then None else Some m) (nonzero_low w b is)
       ∙ turned (mean v b == 0)
-      ∙ ap (λ m. if m then Some quotient else None) (sym (ap (λ d. are_met v f (if d && not (spec.is_nonzero (constant_in b)) then state.Divisor b ∷ [] else [])) divides ∙ divisor_met b (constant_in b) refl))
-      ∙ ap (λ o. if are_met v f (spec.divisor_needs c b) then o else None) made.number_is
+      ∙ ap (λ x. if x then Some m else None) (sym (divisor_met b (constant_in b) refl))
+      ∙ ap (λ k. if are_met v f (spec.divisor_needs SecondNonzero b) then Some k else None) e
     where
-      turned : (z : Bool) → (if z then None else Some quotient) ≡ (if not z then Some quotient else None)
+      turned : (z : Bool) → (if z then None else Some m) ≡ (if not z then Some m else None)
       turned true = refl
       turned false = refl
 
@@ -169,7 +174,7 @@ module _ (v : Valuation) (f : First) (s : State) (regs : Regs) (memory : List Me
   symbol_worth_by name w None is = refl
   symbol_worth_by name w (Some address) is =
       ap Some (ap (low w) (of.symbols name address is)
-      ∙ sym (mean-low_bits v w (own_symbol name) ∙ ap (low w) (sym (made.below W64 (v.sym name) (subst (λ a. a < 2 ^ 64) (of.symbols name address is) (of.words name address is))))))
+      ∙ sym (mean-low_bits v w (own_symbol name) ∙ ap (low w) (sym (below W64 (v.sym name) (subst (λ a. a < 2 ^ 64) (of.symbols name address is) (of.words name address is))))))
 
   symbol_worth : (name : List ℕ) (w : Width) → IsWorth (option_map (low w) (symbol_address f.symbols name)) (spec.of_symbol name w) w
   symbol_worth name w = record {
@@ -207,35 +212,78 @@ module _ (v : Valuation) (f : First) (s : State) (regs : Regs) (memory : List Me
 
   -- ---- of one part
 
-  good_unary : (c : Code) → ((w : Width) (a : Tree) → Makes v (rtl.unary c w (mean v a)) (spec.unary c w a) w) → Good class.Unary c
-  good_unary c makes = good_by class.Unary c (λ n name w. none_worth w) (λ r m a w. record {
-    value_is = ap (λ o. option_and_then (rtl.unary c w) o) (a.values w).value_is ∙ worth_one v f (rtl.unary c w) (spec.unary c w) (m.made w) (makes w (m.made w).term).number_is;
-    width_is = (makes w (m.made w).term).width_is;
-  }) (λ r r' m m' a a' w. none_worth w)
+  no_one : (o : Option ℕ) → ◌≡◌ {A = Option ℕ} (option_and_then (λ n. None) o) None
+  no_one None = refl
+  no_one (Some n) = refl
+
+  no_two : (o p : Option ℕ) → ◌≡◌ {A = Option ℕ} (rtl.of_two (λ m n. None) o p) None
+  no_two None p = refl
+  no_two (Some m) p = no_one p
+
+  zero_is : (w : Width) → mean v (constant w 0) ≡ 0
+  zero_is w = mean-constant v w 0 ∙ none w
+    where
+      none : (w : Width) → low w 0 ≡ 0
+      none W8 = refl
+      none W16 = refl
+      none W32 = refl
+      none W64 = refl
+
+  operand_worth : (p : Option Operator) (w : Width) (m : Made) →
+      IsWorth (option_and_then (λ n. option_map (λ o. number o w n 0) p) (worth v f m)) (spec.of_operand s.stores p w m) w
+  operand_worth None w m = record { value_is = no_one (worth v f m); width_is = refl }
+  operand_worth (Some o) w m =
+      let makes = made.made v s.stores o w m.term (constant w 0) shows.stored in
+      record {
+        value_is = worth_one v f (λ n. Some (number o w n 0)) (λ t. term_of s.stores o w t (constant w 0)) m (ap Some (ap (number o w (mean v m.term)) (sym (zero_is w)) ∙ makes.number_is));
+        width_is = makes.width_is;
+      }
+
+  good_unary : (c : Code) → Good class.Unary c
+  good_unary c = good_by class.Unary c (λ n name w. none_worth w) (λ r m a w.
+      subst (λ o. IsWorth (option_and_then (rtl.unary c w) o) (spec.of_operand s.stores (rtl.alone (rtl.operator_of c)) w (m.made w)) w) (sym (a.values w).value_is)
+      (operand_worth (rtl.alone (rtl.operator_of c)) w (m.made w)))
+      (λ r r' m m' a a' w. none_worth w)
 
   good_lowpart : (c : Code) → Good class.Lowpart c
   good_lowpart c = good_by class.Lowpart c (λ n name w. none_worth w) (λ r m a w. a.values w) (λ r r' m m' a a' w. none_worth w)
 
-  convert : (c : Code) → ((own w : Width) (a : Tree) → width_of a ≡ own → Makes v (rtl.converted c own w (mean v a)) (spec.converted s.stores c w a) w) →
-      (r : rtl.Reading) (m : Reading) → Agree r m → (w : Width) (own : Option Width) → r.width ≡ own →
+  -- of a part that is as wide as it says
+  conversion_worth : (c : Code) (own w : Width) (m : Made) → width_of m.term ≡ own →
+      IsWorth (option_and_then (rtl.converted c own w) (worth v f m)) (spec.of_conversion s.stores (spec.conversion_of c) w m) w
+  conversion_worth code.SignExtend own w m is =
+      let makes = made.sign_made v s.stores own w m.term shows.stored is in
+      record {
+        value_is = worth_one v f (rtl.converted code.SignExtend own w) (one s.stores heads.Sext w) m (ap Some makes.number_is);
+        width_is = makes.width_is;
+      }
+  conversion_worth code.ZeroExtend own w m is =
+      let makes = made.zero_made v s.stores own w m.term shows.stored is in
+      record {
+        value_is = worth_one v f (rtl.converted code.ZeroExtend own w) (one s.stores heads.Zext w) m (ap Some makes.number_is);
+        width_is = makes.width_is;
+      }
+  conversion_worth code.Truncate own w m is =
+      let makes = made.truncate_made v s.stores w m.term shows.stored in
+      record {
+        value_is = worth_one v f (rtl.converted code.Truncate own w) (one s.stores heads.Trunc w) m (ap Some makes.number_is);
+        width_is = makes.width_is;
+      }
+  conversion_worth _ own w m is = record { value_is = no_one (worth v f m); width_is = refl }
+
+  convert : (c : Code) (r : rtl.Reading) (m : Reading) → Agree r m → (w : Width) (own : Option Width) → r.width ≡ own →
       IsWorth (rtl.of_converted c r w) (spec.of_converted s.stores own c m w) w
-  convert c makes r m a w None is = record { value_is = ap (λ o. option_and_then (λ own. rtl.of_one (rtl.converted c own w) (r.value own)) o) is; width_is = refl }
-  convert c makes r m a w (Some own) is = record {
-    value_is = ap (λ o. option_and_then (λ own. rtl.of_one (rtl.converted c own w) (r.value own)) o) is
-        ∙ ap (λ o. option_and_then (rtl.converted c own w) o) (a.values own).value_is
-        ∙ worth_one v f (rtl.converted c own w) (spec.converted s.stores c w) (m.made own) (makes own w (m.made own).term (a.values own).width_is).number_is;
-    width_is = (makes own w (m.made own).term (a.values own).width_is).width_is;
-  }
+  convert c r m a w None is = record { value_is = ap (λ o. option_and_then (λ own. rtl.of_one (rtl.converted c own w) (r.value own)) o) is; width_is = refl }
+  convert c r m a w (Some own) is =
+      subst (λ o. IsWorth (option_and_then (λ own. rtl.of_one (rtl.converted c own w) (r.value own)) o) (spec.of_converted s.stores (Some own) c m w) w) (sym is)
+      (subst (λ o. IsWorth (option_and_then (rtl.converted c own w) o) (spec.of_converted s.stores (Some own) c m w) w) (sym (a.values own).value_is)
+      (conversion_worth c own w (m.made own) (a.values own).width_is))
 
-  converted_one : (c : Code) → ((own w : Width) (a : Tree) → width_of a ≡ own → Makes v (rtl.converted c own w (mean v a)) (spec.converted s.stores c w a) w) →
-      (r : rtl.Reading) (m : Reading) → Agree r m → (w : Width) → IsWorth (rtl.of_converted c r w) (spec.of_converted s.stores m.width c m w) w
-  converted_one c makes r m a w = convert c makes r m a w m.width a.widths
+  good_extension : (c : Code) → Good class.Extension c
+  good_extension c = good_by class.Extension c (λ n name w. none_worth w) (λ r m a w. convert c r m a w m.width a.widths) (λ r r' m m' a a' w. none_worth w)
 
-  good_extension : (c : Code) → ((own w : Width) (a : Tree) → width_of a ≡ own → Makes v (rtl.converted c own w (mean v a)) (spec.converted s.stores c w a) w) → Good class.Extension c
-  good_extension c makes = good_by class.Extension c (λ n name w. none_worth w) (converted_one c makes) (λ r r' m m' a a' w. none_worth w)
-
-  good_truncation : (c : Code) → ((own w : Width) (a : Tree) → width_of a ≡ own → Makes v (rtl.converted c own w (mean v a)) (spec.converted s.stores c w a) w) → Good class.Truncation c
-  good_truncation c makes = good_by class.Truncation c (λ n name w. none_worth w) (converted_one c makes) (λ r r' m m' a a' w. none_worth w)
+  good_truncation : (c : Code) → Good class.Truncation c
+  good_truncation c = good_by class.Truncation c (λ n name w. none_worth w) (λ r m a w. convert c r m a w m.width a.widths) (λ r r' m m' a a' w. none_worth w)
 
   memory_one : (c : Code) (r : rtl.Reading) (m : Reading) → Agree r m → (w : Width) → IsWorth (rtl.value_of_one memory class.Memory c r w) (spec.loaded s.stores w (m.made W64)) w
   memory_one c r m a w = record {
@@ -258,101 +306,83 @@ module _ (v : Valuation) (f : First) (s : State) (regs : Regs) (memory : List Me
 
   -- ---- of two parts
 
-  good_binary : (c : Code) → ((w : Width) (a b : Tree) → width_of b ≡ w → (rtl.binary c w (mean v a) (mean v b) ≡ (if are_met v f (spec.divisor_needs c b) then Some (mean v (spec.binary s.stores c w a b)) else None)) × (width_of (spec.binary s.stores c w a b) ≡ w)) → Good class.Binary c
-  good_binary c makes = good_by class.Binary c (λ n name w. none_worth w) (λ r m a w. none_worth w) (λ r r' m m' a a' w. record {
-    value_is = ap (λ o. rtl.of_two (rtl.binary c w) o (r'.value w)) (a.values w).value_is
-        ∙ ap (λ o. rtl.of_two (rtl.binary c w) (worth v f (m.made w)) o) (a'.values w).value_is
-        ∙ worth_operands v f s.stores c w (m.made w) (m'.made w) (makes w (m.made w).term (m'.made w).term (a'.values w).width_is).0;
-    width_is = (makes w (m.made w).term (m'.made w).term (a'.values w).width_is).1;
-  })
-
-  good_shift : (c : Code) → ((w : Width) (a b : Tree) → Makes v (rtl.shifted c w (mean v a) (mean v b)) (spec.binary s.stores c w a b) w) → Good class.Shift c
-  good_shift c makes = good_by class.Shift c (λ n name w. none_worth w) (λ r m a w. none_worth w) (λ r r' m m' a a' w.
-      let own : Width = rtl.count_width m'.width in
-      let count : rtl.count_width r'.width ≡ own = ap rtl.count_width a'.widths in
+  operands_worth : (p : Option Operator) (w : Width) (m m' : Made) → width_of m'.term ≡ w →
+      IsWorth (rtl.of_two (λ a b. option_and_then (λ o. rtl.operated o w a b) p) (worth v f m) (worth v f m')) (spec.of_operands s.stores p w m m') w
+  operands_worth None w m m' is = record { value_is = no_two (worth v f m) (worth v f m'); width_is = refl }
+  operands_worth (Some o) w m m' is =
+      let makes = made.made v s.stores o w m.term m'.term shows.stored in
       record {
-        value_is = ap (λ o. rtl.of_two (rtl.shifted c w) o (r'.value (rtl.count_width r'.width))) (a.values w).value_is
-            ∙ ap (λ u. rtl.of_two (rtl.shifted c w) (worth v f (m.made w)) (r'.value u)) count
-            ∙ ap (λ o. rtl.of_two (rtl.shifted c w) (worth v f (m.made w)) o) (a'.values own).value_is
-            ∙ worth_two v f (rtl.shifted c w) (spec.binary s.stores c w) (m.made w) (m'.made own) (makes w (m.made w).term (m'.made own).term).number_is;
-        width_is = (makes w (m.made w).term (m'.made own).term).width_is;
-      })
+        value_is = worth_operands v f s.stores o w m m' (asked v f (asks_of o) w m'.term _ _ makes.number_is is);
+        width_is = makes.width_is;
+      }
 
-  compare : (c : Code) (k : Relation) → spec.relation_of c ≡ Some k → ((own : Width) (a b : ℕ) → rtl.compared c own a b ≡ Some (if holds k own a b then 1 else 0)) →
-      (r r' : rtl.Reading) (m m' : Reading) → Agree r m → Agree r' m' → (w : Width) (own : Option Width) → rtl.first_width r.width r'.width ≡ own →
+  good_binary : (c : Code) → Good class.Binary c
+  good_binary c = good_by class.Binary c (λ n name w. none_worth w) (λ r m a w. none_worth w) (λ r r' m m' a a' w.
+      subst (λ o. IsWorth (rtl.of_two (rtl.binary c w) o (r'.value w)) (spec.of_operands s.stores (rtl.operator_of c) w (m.made w) (m'.made w)) w) (sym (a.values w).value_is)
+      (subst (λ o. IsWorth (rtl.of_two (rtl.binary c w) (worth v f (m.made w)) o) (spec.of_operands s.stores (rtl.operator_of c) w (m.made w) (m'.made w)) w) (sym (a'.values w).value_is)
+      (operands_worth (rtl.operator_of c) w (m.made w) (m'.made w) (a'.values w).width_is)))
+
+  count_worth : (p : Option Operator) (w : Width) (m m' : Made) →
+      IsWorth (rtl.of_two (λ a b. option_map (λ o. number o w a b) p) (worth v f m) (worth v f m')) (spec.of_shifted s.stores p w m m') w
+  count_worth None w m m' = record { value_is = no_two (worth v f m) (worth v f m'); width_is = refl }
+  count_worth (Some o) w m m' =
+      let makes = made.made v s.stores o w m.term m'.term shows.stored in
+      record {
+        value_is = worth_two v f (λ a b. Some (number o w a b)) (term_of s.stores o w) m m' (ap Some makes.number_is);
+        width_is = makes.width_is;
+      }
+
+  good_shift : (c : Code) → Good class.Shift c
+  good_shift c = good_by class.Shift c (λ n name w. none_worth w) (λ r m a w. none_worth w) (λ r r' m m' a a' w.
+      let own : Width = rtl.count_width m'.width in
+      let whole : Made = spec.of_shifted s.stores (rtl.counting (rtl.operator_of c)) w (m.made w) (m'.made own) in
+      subst (λ o. IsWorth (rtl.of_two (rtl.shifted c w) o (r'.value (rtl.count_width r'.width))) whole w) (sym (a.values w).value_is)
+      (subst (λ (u : Option Width). IsWorth (rtl.of_two (rtl.shifted c w) (worth v f (m.made w)) (r'.value (rtl.count_width u))) whole w) (sym a'.widths)
+      (subst (λ o. IsWorth (rtl.of_two (rtl.shifted c w) (worth v f (m.made w)) o) whole w) (sym (a'.values own).value_is)
+      (count_worth (rtl.counting (rtl.operator_of c)) w (m.made w) (m'.made own)))))
+
+  truth_worth : (p : Option Relation) (own w : Width) (m m' : Made) →
+      IsWorth (rtl.of_two (λ a b. option_map (λ r. truth (holds r own a b)) p) (worth v f m) (worth v f m')) (spec.of_related s.stores p own w m m') w
+  truth_worth None own w m m' = record { value_is = no_two (worth v f m) (worth v f m'); width_is = refl }
+  truth_worth (Some r) own w m m' =
+      let makes = made.related_made v s.stores r own w m.term m'.term shows.stored in
+      record {
+        value_is = worth_two v f (λ a b. Some (truth (holds r own a b))) (related s.stores r own w) m m' (ap Some makes.number_is);
+        width_is = makes.width_is;
+      }
+
+  compare : (c : Code) (r r' : rtl.Reading) (m m' : Reading) → Agree r m → Agree r' m' → (w : Width) (own : Option Width) → rtl.first_width r.width r'.width ≡ own →
       IsWorth (rtl.of_compared c r r') (spec.of_compared s.stores own c m m' w) w
-  compare c k relation means r r' m m' a a' w None is = record {
+  compare c r r' m m' a a' w None is = record {
     value_is = ap (λ o. option_and_then (λ own. rtl.of_two (rtl.compared c own) (r.value own) (r'.value own)) o) is;
     width_is = refl;
   }
-  compare c k relation means r r' m m' a a' w (Some own) is = record {
-    value_is = ap (λ o. option_and_then (λ own. rtl.of_two (rtl.compared c own) (r.value own) (r'.value own)) o) is
-        ∙ ap (λ o. rtl.of_two (rtl.compared c own) o (r'.value own)) (a.values own).value_is
-        ∙ ap (λ o. rtl.of_two (rtl.compared c own) (worth v f (m.made own)) o) (a'.values own).value_is
-        ∙ worth_two v f (rtl.compared c own) (spec.related s.stores (Some k) own w) (m.made own) (m'.made own)
-        (means own (mean v (m.made own).term) (mean v (m'.made own).term) ∙ related.number_is)
-        ∙ ap (λ o. worth v f (spec.of_two (spec.related s.stores o own w) (m.made own) (m'.made own))) (sym relation);
-    width_is = ap (λ o. width_of (spec.related s.stores o own w (m.made own).term (m'.made own).term)) relation ∙ related.width_is;
-  }
-    where
-      related : Makes v (Some (if holds k own (mean v (m.made own).term) (mean v (m'.made own).term) then 1 else 0)) (spec.related s.stores (Some k) own w (m.made own).term (m'.made own).term) w
-      related = made.related_made v s.stores k own w (m.made own).term (m'.made own).term shows.stored
+  compare c r r' m m' a a' w (Some own) is =
+      let whole : Made = spec.of_compared s.stores (Some own) c m m' w in
+      subst (λ o. IsWorth (option_and_then (λ own. rtl.of_two (rtl.compared c own) (r.value own) (r'.value own)) o) whole w) (sym is)
+      (subst (λ o. IsWorth (rtl.of_two (rtl.compared c own) o (r'.value own)) whole w) (sym (a.values own).value_is)
+      (subst (λ o. IsWorth (rtl.of_two (rtl.compared c own) (worth v f (m.made own)) o) whole w) (sym (a'.values own).value_is)
+      (truth_worth (rtl.relation_in (rtl.operator_of c)) own w (m.made own) (m'.made own))))
 
-  good_comparison : (c : Code) (k : Relation) → spec.relation_of c ≡ Some k → ((own : Width) (a b : ℕ) → rtl.compared c own a b ≡ Some (if holds k own a b then 1 else 0)) → Good class.Comparison c
-  good_comparison c k relation means = good_by class.Comparison c (λ n name w. none_worth w) (λ r m a w. none_worth w) (λ r r' m m' a a' w.
-      compare c k relation means r r' m m' a a' w (rtl.first_width m.width m'.width) (ap (λ o. rtl.first_width o r'.width) a.widths ∙ ap (λ o. rtl.first_width m.width o) a'.widths))
+  good_comparison : (c : Code) → Good class.Comparison c
+  good_comparison c = good_by class.Comparison c (λ n name w. none_worth w) (λ r m a w. none_worth w) (λ r r' m m' a a' w.
+      compare c r r' m m' a a' w (rtl.first_width m.width m'.width) (ap (λ o. rtl.first_width o r'.width) a.widths ∙ ap (λ o. rtl.first_width m.width o) a'.widths))
 
-  -- ---- each code
+  -- ---- each class
 
-  good : (c : Code) → Good (class_of_code c) c
-  good code.Reg = good_register code.Reg
-  good code.ConstInt = good_constant code.ConstInt
-  good code.SymbolRef = good_symbol code.SymbolRef
-  good code.Mem = good_memory code.Mem
-  good code.Subreg = good_lowpart code.Subreg
-  good code.Plus = good_binary code.Plus (λ w a b is. let m = made.plus_made v s.stores w a b in (m.number_is, m.width_is))
-  good code.Minus = good_binary code.Minus (λ w a b is. let m = made.minus_made v s.stores w a b in (m.number_is, m.width_is))
-  good code.Mult = good_binary code.Mult (λ w a b is. let m = made.mult_made v s.stores w a b shows.stored in (m.number_is, m.width_is))
-  good code.And = good_binary code.And (λ w a b is. let m = made.and_made v s.stores w a b shows.stored in (m.number_is, m.width_is))
-  good code.Ior = good_binary code.Ior (λ w a b is. let m = made.ior_made v s.stores w a b shows.stored in (m.number_is, m.width_is))
-  good code.Xor = good_binary code.Xor (λ w a b is. let m = made.xor_made v s.stores w a b shows.stored in (m.number_is, m.width_is))
-  good code.Div = good_binary code.Div (λ w a b is. let m = made.div_made v s.stores w a b shows.stored in (divided v f code.Div w b (quotient_signed w (mean v a) (mean v b)) (spec.binary s.stores code.Div w a b) refl is m, m.width_is))
-  good code.Udiv = good_binary code.Udiv (λ w a b is. let m = made.udiv_made v s.stores w a b shows.stored in (divided v f code.Udiv w b (quotient_unsigned w (mean v a) (mean v b)) (spec.binary s.stores code.Udiv w a b) refl is m, m.width_is))
-  good code.Mod = good_binary code.Mod (λ w a b is. let m = made.mod_made v s.stores w a b shows.stored in (divided v f code.Mod w b (remainder_signed w (mean v a) (mean v b)) (spec.binary s.stores code.Mod w a b) refl is m, m.width_is))
-  good code.Umod = good_binary code.Umod (λ w a b is. let m = made.umod_made v s.stores w a b shows.stored in (divided v f code.Umod w b (remainder_unsigned w (mean v a) (mean v b)) (spec.binary s.stores code.Umod w a b) refl is m, m.width_is))
-  good code.Neg = good_unary code.Neg (λ w a. made.neg_made v w a)
-  good code.Not = good_unary code.Not (λ w a. made.not_made v w a)
-  good code.Ashift = good_shift code.Ashift (λ w a b. made.left_made v s.stores w a b shows.stored)
-  good code.Lshiftrt = good_shift code.Lshiftrt (λ w a b. made.right_made v s.stores w a b shows.stored)
-  good code.Ashiftrt = good_shift code.Ashiftrt (λ w a b. made.arithmetic_made v s.stores w a b shows.stored)
-  good code.SignExtend = good_extension code.SignExtend (λ own w a is. made.sign_made v s.stores own w a shows.stored is)
-  good code.ZeroExtend = good_extension code.ZeroExtend (λ own w a is. made.zero_made v s.stores own w a shows.stored is)
-  good code.Truncate = good_truncation code.Truncate (λ own w a is. made.truncate_made v s.stores own w a shows.stored)
-  good code.Eq = good_comparison code.Eq relation.Eq refl (λ own a b. refl)
-  good code.Ne = good_comparison code.Ne relation.Ne refl (λ own a b. refl)
-  good code.Lt = good_comparison code.Lt relation.Lt refl (λ own a b. refl)
-  good code.Le = good_comparison code.Le relation.Le refl (λ own a b. refl)
-  good code.Gt = good_comparison code.Gt relation.Gt refl (λ own a b. refl)
-  good code.Ge = good_comparison code.Ge relation.Ge refl (λ own a b. refl)
-  good code.Ltu = good_comparison code.Ltu relation.Ltu refl (λ own a b. refl)
-  good code.Leu = good_comparison code.Leu relation.Leu refl (λ own a b. refl)
-  good code.Gtu = good_comparison code.Gtu relation.Gtu refl (λ own a b. refl)
-  good code.Geu = good_comparison code.Geu relation.Geu refl (λ own a b. refl)
-  good code.Set = good_by class.Setting code.Set (λ n name w. none_worth w) (λ r m a w. none_worth w) (λ r r' m m' a a' w. none_worth w)
-  good code.Use = good_by class.Use code.Use (λ n name w. none_worth w) (λ r m a w. none_worth w) (λ r r' m m' a a' w. none_worth w)
-  good code.Clobber = good_by class.Clobber code.Clobber (λ n name w. none_worth w) (λ r m a w. none_worth w) (λ r r' m m' a a' w. none_worth w)
-  good code.Parallel = good_by class.Parallel code.Parallel (λ n name w. none_worth w) (λ r m a w. none_worth w) (λ r r' m m' a a' w. none_worth w)
-  good code.Call = good_by class.Call code.Call (λ n name w. none_worth w) (λ r m a w. none_worth w) (λ r r' m m' a a' w. none_worth w)
-  good code.Return = good_by class.Return code.Return (λ n name w. none_worth w) (λ r m a w. none_worth w) (λ r r' m m' a a' w. none_worth w)
-  good code.Pc = good_by class.Counter code.Pc (λ n name w. none_worth w) (λ r m a w. none_worth w) (λ r r' m m' a a' w. none_worth w)
-  good code.LabelRef = good_by class.Label code.LabelRef (λ n name w. none_worth w) (λ r m a w. none_worth w) (λ r r' m m' a a' w. none_worth w)
-  good code.IfThenElse = good_by class.Branch code.IfThenElse (λ n name w. none_worth w) (λ r m a w. none_worth w) (λ r r' m m' a a' w. none_worth w)
-  good code.Scratch = good_by class.Scratch code.Scratch (λ n name w. none_worth w) (λ r m a w. none_worth w) (λ r r' m m' a a' w. none_worth w)
-  good code.MatchOperand = good_by class.Operand code.MatchOperand (λ n name w. none_worth w) (λ r m a w. none_worth w) (λ r r' m m' a a' w. none_worth w)
-  good code.MatchDup = good_by class.OperandAgain code.MatchDup (λ n name w. none_worth w) (λ r m a w. none_worth w) (λ r r' m m' a a' w. none_worth w)
-  good code.MatchScratch = good_by class.OperandScratch code.MatchScratch (λ n name w. none_worth w) (λ r m a w. none_worth w) (λ r r' m m' a a' w. none_worth w)
-  good code.MatchOperator = good_by class.Operator code.MatchOperator (λ n name w. none_worth w) (λ r m a w. none_worth w) (λ r r' m m' a a' w. none_worth w)
-  good code.MatchOpDup = good_by class.OperatorAgain code.MatchOpDup (λ n name w. none_worth w) (λ r m a w. none_worth w) (λ r r' m m' a a' w. none_worth w)
+  good : (k : Class) (c : Code) → Good k c
+  good class.Register c = good_register c
+  good class.Constant c = good_constant c
+  good class.Symbol c = good_symbol c
+  good class.Memory c = good_memory c
+  good class.Lowpart c = good_lowpart c
+  good class.Unary c = good_unary c
+  good class.Binary c = good_binary c
+  good class.Shift c = good_shift c
+  good class.Extension c = good_extension c
+  good class.Truncation c = good_truncation c
+  good class.Comparison c = good_comparison c
+  good k c = good_by k c (λ n name w. none_worth w) (λ r m a w. none_worth w) (λ r r' m m' a a' w. none_worth w)
 
   -- ---- each expression
 
@@ -377,7 +407,7 @@ module _ (v : Valuation) (f : First) (s : State) (regs : Regs) (memory : List Me
       subst (λ (r : rtl.Reading). Agree r (terms (roll-Rtx z))) (sym r) (
       subst (λ (m : Reading). Agree (rtl.reading_step f.symbols regs memory (map-Rtx Rtx rtl.Reading numbers z)) m) (sym m) (record {
         widths = refl;
-        values = good z.code z.number z.name (map numbers z.kids) (map terms z.kids) (kids_agree y.kids);
+        values = good (class_of_code z.code) z.code z.number z.name (map numbers z.kids) (map terms z.kids) (kids_agree y.kids);
       }))
 
   agree : (x : Rtx) → P x

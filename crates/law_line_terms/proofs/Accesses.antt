@@ -31,7 +31,8 @@ use Rattle.law_insn_terms.specs.Needs as needs
 use Rattle.law_insn_terms.specs.Needs.{are_met}
 use Rattle.law_insn_terms.proofs.Values.{both_met}
 use Rattle.law_insn_terms.proofs.Parts.{has_load, load_worth}
-use Rattle.law_insn_terms.proofs.Operations.{mean_below, wrapped_below, below}
+use Rattle.bits64.proofs.Operators.{wrapped_below, below}
+use Rattle.law_insn_terms.proofs.Operations.{mean_below}
 use Rattle.law_line_terms.specs.ShowsLine.{IsFirst, ShowsLine}
 use Rattle.law_line_terms.proofs.Reading.{had, register_had}
 use Rattle.law_line_terms.proofs.Computing.{is_64, extended_whole}

@@ -38,7 +38,7 @@ use Rattle.law_line_terms.specs.EndsLines.{EndsLines, falls, goes, calls, LinesR
 use Rattle.law_line_terms.proofs.Before.{IsHad, met_front, stored_front}
 use Rattle.law_line_terms.proofs.Ends.{branch_term, branch_goes, symbol_goes, symbol_shows, call_goes, register_call_goes}
 use Rattle.law_line_terms.proofs.Steps.{sets_to, compute_needs, compute_term, compute_goes, compute_shows, load_needs, load_term, load_goes, load_shows, store_needs, store_value, memory_behind, store_goes, store_shows}
-use Rattle.law_line_terms.proofs.Tables.{rd_within, branch_words}
+use Rattle.law_line_terms.proofs.Tables.{rd_within}
 
 no_more : (lines : List Line) → is_end lines ≡ true → lines ≡ []
 no_more [] is = refl
@@ -150,11 +150,10 @@ module _ (v : Valuation) (f : First) (first : List (Option ℕ)) (is_first : IsF
       (met_front v f index s.needs (Symbol l.target ∷ []) had.met).1
       (symbol_shows v f first is_first s m shows index (label_uid function l.target) l (rd_within l action.SymbolAddress is)) refl refl)
   act_leads (action.Branch c x y) lines is fits none_jumps none_calls had aligned =
-      let words = branch_words l c x y is in
       let met = (met_front v f index s.needs (compute_needs v f first is_first s m shows l x y) had.met).1 in
       stops (no_more lines fits)
       (branch_by (after (action.Branch c x y)) (mean v (branch_term v f first is_first s m shows l c x y) == 0) refl
-      (step_of (action.Branch c x y) is ∙ branch_goes v f first is_first s m shows world l c x y words.0 words.1
+      (step_of (action.Branch c x y) is ∙ branch_goes v f first is_first s m shows world l c x y
       ∙ ap (λ b. (if b then (if mean v (branch_term v f first is_first s m shows l c x y) == 0 then ends.Next else ends.Jumped) else ends.Stuck, m)) met)
       none_calls refl (shows_still (after (action.Branch c x y)) refl refl))
   act_leads action.Jump lines is fits none_jumps none_calls had aligned =

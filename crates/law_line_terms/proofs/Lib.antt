@@ -5,7 +5,6 @@ pub mod Ends
 pub mod Leads
 pub mod Lines
 pub mod Reading
-pub mod Results
 pub mod Runs
 pub mod Setting
 pub mod Steps

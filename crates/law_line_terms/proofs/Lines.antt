@@ -1,14 +1,12 @@
 -- The step of a line: it goes on exactly where its needs are met, and then the symbolic state after it shows the machine after it.
 use Rattle.std.proofs.Common.{◌≡◌, ℕ, ◌&&◌, Bool, true, false, List, ◌++◌, Option, Some, None, refl, sym, ◌∙◌, ap}
 use Rattle.std.specs.Prelude.{if◌then◌else◌, option_map}
-use Rattle.std.specs.Int.{cast_unsigned, w64}
 use Rattle.bits64.specs.declared.Width.{Width}
 use Rattle.bits64.specs.declared.Width.TheVariants.{W64}
+use Rattle.bits64.specs.declared.operator.Operator.{Operator}
 use Rattle.bits64.specs.Words.{low}
 use Rattle.rv_text.specs.declared.line.Line.{Line}
-use Rattle.rv_text.specs.declared.action.Operation.{Operation}
 use Rattle.rv_text.specs.declared.action.Source.{Source}
-use Rattle.rv_text.specs.declared.action.Source.TheVariants.{First, Second, ReturnAddress, Immediate, Constant}
 use Rattle.rv_line.specs.Step as line
 use Rattle.rv_line.specs.declared.state.RvState.{RvState}
 use Rattle.term_tree.specs.Tree.{Tree}
@@ -21,7 +19,7 @@ use Rattle.law_insn_terms.specs.Needs.{are_met}
 use Rattle.law_insn_terms.proofs.Values.{both_met}
 use Rattle.law_line_terms.specs.ShowsLine.{IsFirst, ShowsLine}
 use Rattle.law_line_terms.proofs.Reading.{had, source_had}
-use Rattle.law_line_terms.proofs.Computing.{IsOfSource, computed_made}
+use Rattle.law_line_terms.proofs.Computing.{computed_made}
 
 module _ (v : Valuation) (f : needs.First) (first : List (Option ℕ)) (is_first : IsFirst v f first) where
   -- what is had, by whether its needs are met
@@ -44,33 +42,36 @@ module _ (v : Valuation) (f : needs.First) (first : List (Option ℕ)) (is_first
       by false e is = e
 
   module _ (s : State) (m : RvState) (shows : ShowsLine v f first s m) where
-    constant_is : (l : Line) (x : Source) (n : ℕ) → line.source_value m l x ≡ Some n → IsOfSource x n
-    constant_is l (Constant number) n is = let same : cast_unsigned w64 number ≡ n = cc in sym same
-    constant_is l First n is = tt
-    constant_is l Second n is = tt
-    constant_is l ReturnAddress n is = tt
-    constant_is l Immediate n is = tt
-
-    computed_by : (l : Line) (o : Operation) (w : Width) (x y : Source) (a b : Option ℕ) → line.source_value m l x ≡ a → line.source_value m l y ≡ b →
-        line.of_both (line.computed o w) a b ≡ had v f first is_first (spec.source_needs s.regs l x ++ spec.source_needs s.regs l y) (compute.computed o y w (spec.source s.regs l x) (spec.source s.regs l y))
-    computed_by l o w x y None b left right =
+    -- what a function gives of what a line reads is had where its sources are
+    both_by : {X : Type 0} (g : ℕ → ℕ → X) (t : X) (l : Line) (x y : Source) →
+        ((a b : ℕ) → low W64 a ≡ mean v (spec.source s.regs l x) → low W64 b ≡ mean v (spec.source s.regs l y) → g a b ≡ t) →
+        (a b : Option ℕ) → line.source_value m l x ≡ a → line.source_value m l y ≡ b →
+        line.of_both g a b ≡ (if are_met v f (spec.source_needs s.regs l x ++ spec.source_needs s.regs l y) then Some t else None)
+    both_by g t l x y gives None b left right =
         let none = had_none (spec.source_needs s.regs l x) (spec.source s.regs l x) (sym (ap (option_map (low W64)) left) ∙ source_had v f first is_first s m shows l x) in
-        sym (ap (λ c. if c then Some (mean v (compute.computed o y w (spec.source s.regs l x) (spec.source s.regs l y))) else None)
+        sym (ap (λ c. if c then Some t else None)
         (both_met v f (spec.source_needs s.regs l x) (spec.source_needs s.regs l y) ∙ ap (λ c. c && are_met v f (spec.source_needs s.regs l y)) none))
-    computed_by l o w x y (Some a) None left right =
+    both_by g t l x y gives (Some a) None left right =
         let first_had = had_some (spec.source_needs s.regs l x) (spec.source s.regs l x) a (sym (ap (option_map (low W64)) left) ∙ source_had v f first is_first s m shows l x) in
         let none = had_none (spec.source_needs s.regs l y) (spec.source s.regs l y) (sym (ap (option_map (low W64)) right) ∙ source_had v f first is_first s m shows l y) in
-        sym (ap (λ c. if c then Some (mean v (compute.computed o y w (spec.source s.regs l x) (spec.source s.regs l y))) else None)
+        sym (ap (λ c. if c then Some t else None)
         (both_met v f (spec.source_needs s.regs l x) (spec.source_needs s.regs l y) ∙ ap (λ c. c && are_met v f (spec.source_needs s.regs l y)) first_had.met ∙ none))
-    computed_by l o w x y (Some a) (Some b) left right =
+    both_by g t l x y gives (Some a) (Some b) left right =
         let first_had = had_some (spec.source_needs s.regs l x) (spec.source s.regs l x) a (sym (ap (option_map (low W64)) left) ∙ source_had v f first is_first s m shows l x) in
         let second_had = had_some (spec.source_needs s.regs l y) (spec.source s.regs l y) b (sym (ap (option_map (low W64)) right) ∙ source_had v f first is_first s m shows l y) in
-        ap Some (sym (computed_made v o y w (spec.source s.regs l x) (spec.source s.regs l y) a b first_had.number (constant_is l y b right) second_had.number))
-        ∙ sym (ap (λ c. if c then Some (mean v (compute.computed o y w (spec.source s.regs l x) (spec.source s.regs l y))) else None)
+        ap Some (gives a b first_had.number second_had.number)
+        ∙ sym (ap (λ c. if c then Some t else None)
         (both_met v f (spec.source_needs s.regs l x) (spec.source_needs s.regs l y) ∙ ap (λ c. c && are_met v f (spec.source_needs s.regs l y)) first_had.met ∙ second_had.met))
 
-    -- what a line computes is had where its sources are
-    pub computed_had : (l : Line) (o : Operation) (w : Width) (x y : Source) →
+    pub both_had : {X : Type 0} (g : ℕ → ℕ → X) (t : X) (l : Line) (x y : Source) →
+        ((a b : ℕ) → low W64 a ≡ mean v (spec.source s.regs l x) → low W64 b ≡ mean v (spec.source s.regs l y) → g a b ≡ t) →
+        line.of_both g (line.source_value m l x) (line.source_value m l y)
+        ≡ (if are_met v f (spec.source_needs s.regs l x ++ spec.source_needs s.regs l y) then Some t else None)
+    both_had g t l x y gives = both_by g t l x y gives (line.source_value m l x) (line.source_value m l y) refl refl
+
+    -- what a line computes
+    pub computed_had : (l : Line) (o : Operator) (w : Width) (x y : Source) →
         line.of_both (line.computed o w) (line.source_value m l x) (line.source_value m l y)
-        ≡ had v f first is_first (spec.source_needs s.regs l x ++ spec.source_needs s.regs l y) (compute.computed o y w (spec.source s.regs l x) (spec.source s.regs l y))
-    computed_had l o w x y = computed_by l o w x y (line.source_value m l x) (line.source_value m l y) refl refl
+        ≡ had v f first is_first (spec.source_needs s.regs l x ++ spec.source_needs s.regs l y) (compute.computed o w (spec.source s.regs l x) (spec.source s.regs l y))
+    computed_had l o w x y =
+        both_had (line.computed o w) _ l x y (λ a b left right. sym (computed_made v o w (spec.source s.regs l x) (spec.source s.regs l y) a b left right))

@@ -2,6 +2,7 @@
 -- where they are not it is stuck.
 use Rattle.std.proofs.Common.{◌≡◌, ℕ, suc, ◌<◌, ◌^◌, Bool, true, false, List, [], ◌∷◌, ◌++◌, length, Option, Some, None, refl, sym, ◌∙◌, ap, subst}
 use Rattle.std.specs.Prelude.{if◌then◌else◌, is_some}
+use Rattle.bits64.specs.declared.operator.Operator.{Operator}
 use Rattle.bits64.specs.declared.Width.{Width}
 use Rattle.bits64.specs.declared.Width.TheVariants.{W64}
 use Rattle.bits64.specs.Words.{bytes_of}
@@ -10,7 +11,6 @@ use Rattle.rtx_tree.specs.declared.memories.MemByte.{MemByte}
 use Rattle.run_memory.specs.RunMemory.{number_at, with_number}
 use Rattle.rv_text.specs.declared.line.Line.{Line}
 use Rattle.rv_text.specs.declared.action.Action.TheVariants as action
-use Rattle.rv_text.specs.declared.action.Operation.{Operation}
 use Rattle.rv_text.specs.declared.action.Extension.{Extension}
 use Rattle.rv_text.specs.declared.action.Extension.TheVariants.{Sign, Zero}
 use Rattle.rv_text.specs.declared.action.Source.{Source}
@@ -27,15 +27,17 @@ use Rattle.term_mean.specs.Compared.{low_bits}
 use Rattle.term_mean.proofs.NormalWidths.{width-built}
 use Rattle.term_mean.proofs.ComparedLaws.{width-low_bits}
 use Rattle.sym_lines.specs.sym_state.State.{State, Need, Access, needs_at}
+use Rattle.sym_lines.specs.sym_state.Makers.{term_of}
 use Rattle.sym_lines.specs.Compute as compute
 use Rattle.sym_lines.specs.Step as spec
 use Rattle.law_insn_terms.specs.Needs as needs
 use Rattle.law_insn_terms.specs.Needs.{are_met}
 use Rattle.law_insn_terms.specs.Shows.{ShowsMemory}
+use Rattle.law_insn_terms.proofs.Operations.{made}
 use Rattle.law_insn_terms.proofs.Memories.{IsNext, stored_more, shows_stored}
 use Rattle.law_line_terms.specs.ShowsLine.{IsFirst, ShowsLine}
 use Rattle.law_line_terms.proofs.Reading.{had}
-use Rattle.law_line_terms.proofs.Computing.{is_64, operated_width}
+use Rattle.law_line_terms.proofs.Computing.{is_64}
 use Rattle.law_line_terms.proofs.Lines.{computed_had}
 use Rattle.law_line_terms.proofs.Accesses.{loaded_had, stored_had}
 use Rattle.law_line_terms.proofs.Setting.{rd_shows}
@@ -46,11 +48,11 @@ either_width : (b : Bool) (t u : Tree) (w : Width) → (b ≡ true → width_of 
 either_width true t u w p q = p refl
 either_width false t u w p q = q refl
 
-computed_width : (v : Valuation) (o : Operation) (x : Source) (w : Width) (a b : Tree) → width_of (compute.computed o x w a b) ≡ W64
-computed_width v o x w a b =
+computed_width : (v : Valuation) (o : Operator) (w : Width) (a b : Tree) → width_of (compute.computed o w a b) ≡ W64
+computed_width v o w a b =
     either_width (same_width w W64) _ _ W64
-    (λ whole. operated_width v o x w (low_bits w a) (low_bits w b) ∙ is_64 w whole)
-    (λ part. width-built [] heads.Sext W64 0 [] (compute.operated o x w (low_bits w a) (low_bits w b) ∷ []))
+    (λ whole. (made v [] o w (low_bits w a) (low_bits w b) tt).width_is ∙ is_64 w whole)
+    (λ part. width-built [] heads.Sext W64 0 [] (term_of [] o w (low_bits w a) (low_bits w b) ∷ []))
 
 extended_width : (e : Extension) (w : Width) (t : Tree) → width_of t ≡ w → width_of (spec.extended e w t) ≡ W64
 extended_width Sign w t is = either_width (same_width w W64) t _ W64 (λ whole. is ∙ is_64 w whole) (λ part. width-built [] heads.Sext W64 0 [] (t ∷ []))
@@ -73,17 +75,17 @@ module _ (v : Valuation) (f : needs.First) (first : List (Option ℕ)) (is_first
   abbrev pub compute_needs : Line → Source → Source → List Need
   compute_needs l x y = spec.source_needs s.regs l x ++ spec.source_needs s.regs l y
 
-  abbrev pub compute_term : Line → Operation → Width → Source → Source → Tree
-  compute_term l o w x y = compute.computed o y w (spec.source s.regs l x) (spec.source s.regs l y)
+  abbrev pub compute_term : Line → Operator → Width → Source → Source → Tree
+  compute_term l o w x y = compute.computed o w (spec.source s.regs l x) (spec.source s.regs l y)
 
-  pub compute_goes : (world : World) (l : Line) (o : Operation) (w : Width) (x y : Source) → line.act (action.Compute o w x y) world l m ≡ sets_to l (compute_needs l x y) (compute_term l o w x y)
+  pub compute_goes : (world : World) (l : Line) (o : Operator) (w : Width) (x y : Source) → line.act (action.Compute o w x y) world l m ≡ sets_to l (compute_needs l x y) (compute_term l o w x y)
   compute_goes world l o w x y = ap (line.set_rd m l) (computed_had v f first is_first s m shows l o w x y) ∙ set_had l (compute_needs l x y) (compute_term l o w x y)
 
-  pub compute_shows : (index : ℕ) (uid : Option ℕ) (l : Line) (o : Operation) (w : Width) (x y : Source) → l.rd < 32 →
+  pub compute_shows : (index : ℕ) (uid : Option ℕ) (l : Line) (o : Operator) (w : Width) (x y : Source) → l.rd < 32 →
       ShowsLine v f first (spec.act (action.Compute o w x y) index uid l s) (record m { regs = line.with_register m.regs l.rd (mean v (compute_term l o w x y)) })
   compute_shows index uid l o w x y within =
       rd_shows v f first s m l.rd (mean v (compute_term l o w x y)) (compute_term l o w x y) (s.needs ++ needs_at index (compute_needs l x y)) shows within
-      (computed_width v o y w (spec.source s.regs l x) (spec.source s.regs l y)) refl
+      (computed_width v o w (spec.source s.regs l x) (spec.source s.regs l y)) refl
 
   -- ---- a load
 

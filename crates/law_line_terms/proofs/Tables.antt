@@ -1,17 +1,11 @@
--- Lines of the table: rd is one of 32 registers, and a branch compares all 64 bits of registers or of a small constant.
-use Rattle.std.proofs.Common.{◌≡◌, ℕ, zero, suc, ◌^◌, ◌<◌, nat_lt, ◌&&◌, Bool, true, false, List, [], ◌∷◌, length, Option, Some, None, refl, sym, ◌∙◌, ap, subst, arith}
+-- Lines of the table: rd is one of 32 registers.
+use Rattle.std.proofs.Common.{◌≡◌, ℕ, zero, suc, ◌<◌, Bool, true, false, List, [], ◌∷◌, length, Option, Some, None, refl, subst, arith}
 use Rattle.std.specs.Prelude.{if◌then◌else◌, is_some, option_and_then, slice_get, bytes_eq, nat_eq}
-use Rattle.std.specs.Int.{cast_unsigned, w64}
-use Rattle.std.specs.List.{list_all}
 use Rattle.std.proofs.lemmas.Bool.Decides.{nat_tests}
 use Rattle.rtx_tree.specs.Registers.{reg_names}
 use Rattle.rv_text.specs.Lines.{bare, put, filled, has_all, same_line, is_of_row, action_of, register_text}
-use Rattle.rv_text.specs.Table.{Row, table, find_row, row_named}
+use Rattle.rv_text.specs.Table.{Row, row_named}
 use Rattle.rv_text.specs.declared.action.Action.{Action}
-use Rattle.rv_text.specs.declared.action.Action.TheVariants.{Branch}
-use Rattle.rv_text.specs.declared.action.Comparison.{Comparison}
-use Rattle.rv_text.specs.declared.action.Source.{Source}
-use Rattle.rv_text.specs.declared.action.Source.TheVariants.{Immediate, Constant}
 use Rattle.rv_text.specs.declared.line.Line.{Line}
 use Rattle.rv_text.specs.declared.operand.Operand.{Operand}
 use Rattle.rv_text.specs.declared.operand.Operand.TheVariants.{Rd, Rs, Rt, Number, Place, Target, Ra}
@@ -63,34 +57,3 @@ row_of_line l a is = by (row_named l.name) refl is
 -- rd of a line that does something
 pub rd_within : (l : Line) (a : Action) → action_of l ≡ Some a → l.rd < 32
 rd_within l a is = let row = row_of_line l a is in row_within row.0 l row.2
-
--- ---- what a branch compares
-
--- a source whose number is below 2^64, whatever the line is
-abbrev pub is_word : Source → Bool
-is_word Immediate = false
-is_word (Constant number) = nat_lt (cast_unsigned w64 number) (2 ^ 64)
-is_word _ = true
-
-abbrev compares_words : Action → Bool
-compares_words (Branch comparison left right) = is_word left && is_word right
-compares_words _ = true
-
--- what each row of the table has, a row that is found has
-found_has : (p : Row → Bool) (rows : List Row) (name : List ℕ) (row : Row) → list_all p rows ≡ true → find_row name rows ≡ Some row → p row ≡ true
-found_has p [] name row all found = absurd (let no : ⊥ = cc in no)
-found_has p (first ∷ rows) name row all found =
-    let parts = and_true (p first) (list_all p rows) all in by (bytes_eq first.name name) parts found (found_has p rows name row parts.1)
-  where
-    by : (b : Bool) → (p first ≡ true) × (list_all p rows ≡ true) → (if b then Some first else find_row name rows) ≡ Some row → (find_row name rows ≡ Some row → p row ≡ true) → p row ≡ true
-    by true parts found further = let same : first ≡ row = cc in sym (ap p same) ∙ parts.0
-    by false parts found further = further found
-
-all_compare_words : list_all (λ row. compares_words row.action) table ≡ true
-unfolding table
-all_compare_words = refl
-
-pub branch_words : (l : Line) (comparison : Comparison) (left right : Source) → action_of l ≡ Some (Branch comparison left right) → (is_word left ≡ true) × (is_word right ≡ true)
-branch_words l comparison left right is =
-    let row = row_of_line l (Branch comparison left right) is in
-    and_true (is_word left) (is_word right) (sym (ap compares_words row.3) ∙ found_has (λ row. compares_words row.action) table l.name row.0 all_compare_words row.1)

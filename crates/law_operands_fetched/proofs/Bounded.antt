@@ -1,14 +1,15 @@
 -- The value of an expression in a width has no more bits than the width.
 use Rattle.std.proofs.Common.{◌≡◌, ℕ, zero, suc, ◌+◌, ◌-◌, ◌*◌, ◌/◌, ◌%◌, ◌^◌, ◌<◌, ◌≤◌, if◌then◌else◌, Bool, true, false, List, [], ◌∷◌, map, Option, Some, None, refl, sym, subst, arith}
-use Rattle.std.proofs.Math.Nat.{mod-lt, mod-le, mod-eq_of_lt, div-le_self, pow-succ'}
+use Rattle.std.proofs.Math.Nat.{mod-lt, mod-eq_of_lt, pow-succ'}
 use Rattle.std.proofs.lemmas.List.Elements.{All-head, All-tail}
-use Rattle.std.proofs.lemmas.Nat.{or_lt, xor_lt}
 use Rattle.std.specs.FinMap.{get}
-use Rattle.std.specs.Int.Bits.{and_lt}
 use Rattle.std.specs.Int.{cast_unsigned, w64}
 use Rattle.std.specs.List.{All}
 use Rattle.std.specs.Prelude.{ℤ, pos, negsuc, ◌==◌, option_map, option_and_then}
-use Rattle.law_operands_replaced.specs.bits64.Words.{bits_of, bytes_of, low, wrapped}
+use Rattle.law_operands_replaced.specs.bits64.Words.{bits_of, bytes_of, low}
+use Rattle.law_operands_replaced.specs.bits64.Operators.{number, holds, truth, lacks, asks_of}
+use Rattle.law_operands_replaced.specs.bits64.declared.operator.Operator.{Operator}
+use Rattle.law_operands_replaced.specs.bits64.declared.operator.Relation.{Relation}
 use Rattle.law_operands_replaced.specs.bits64.declared.Width.{Width}
 use Rattle.law_operands_replaced.specs.bits64.declared.Width.TheVariants.{W8, W16, W32, W64}
 use Rattle.law_operands_replaced.specs.rtx_tree.Code.{class_of_code}
@@ -25,8 +26,9 @@ use Rattle.law_operands_replaced.specs.rtx_tree.declared.tree.Rtx.TheOpen.{Rtx-F
 use Rattle.law_operands_replaced.specs.run_memory.RunMemory.{is_aligned, load, number_at}
 use Rattle.law_operands_replaced.specs.run_memory.Symbols.{symbol_address}
 use Rattle.law_operands_replaced.specs.rtl_step.Regs.{Regs, known_in, reg_value}
-use Rattle.law_operands_replaced.specs.rtl_step.Value.{Reading, unary, binary, shifted, compared, converted, truth, of_one, of_two, first_width, count_width, value_of_none, value_of_one, value_of_two, value_by, reading_step, reading_of, value_of}
+use Rattle.law_operands_replaced.specs.rtl_step.Value.{Reading, operator_of, alone, counting, relation_in, operated, unary, binary, shifted, compared, converted, of_one, of_two, first_width, count_width, value_of_none, value_of_one, value_of_two, value_by, reading_step, reading_of, value_of}
 use Rattle.law_operands_replaced.specs.rtl_step.declared.regs.Known.{Known}
+use Rattle.law_operands_replaced.proofs.bits64.Operators.{number_fits}
 use Rattle.same_behaviour.specs.Lawful.{IsByte, IsMemory}
 use Rattle.law_homes.proofs.Stores.{bytes_bits}
 
@@ -54,23 +56,6 @@ some_power w = omega (arith, more_than_one w)
 low_fits : (w : Width) (n : ℕ) → low w n < 2 ^ bits_of w
 low_fits w n = mod-lt n (some_power w)
 
-less_below : (p r : ℕ) → 0 < p → p - 1 - r < p
-less_below p r some = omega (arith, some)
-
-all_ones : (p : ℕ) → 0 < p → p - 1 < p
-all_ones p some = omega (arith, some)
-
-less_through : (a b p : ℕ) → a ≤ b → b < p → a < p
-less_through a b p first second = omega (arith, first, second)
-
-wrapped_fits : (w : Width) (z : ℤ) → wrapped w z < 2 ^ bits_of w
-wrapped_fits w (pos n) = low_fits w n
-wrapped_fits w (negsuc n) = less_below (2 ^ bits_of w) (n % 2 ^ bits_of w) (some_power w)
-
-if_less : (b : Bool) (m n p : ℕ) → m < p → n < p → (if b then m else n) < p
-if_less true m n p first second = first
-if_less false m n p first second = second
-
 -- no bits are cut
 pub fits_low : (w : Width) (v : ℕ) → v < 2 ^ bits_of w → low w v ≡ v
 fits_low w v less = mod-eq_of_lt less
@@ -86,55 +71,37 @@ two_fits w f None o' each = fits_none w
 two_fits w f (Some a) None each = fits_none w
 two_fits w f (Some a) (Some b) each = each a b
 
-unary_fits : (c : Code) (w : Width) (a : ℕ) → Fits w (unary c w a)
-unary_fits code.Neg w a = fits_some w _ (low_fits w _)
-unary_fits code.Not w a = fits_some w _ (less_below (2 ^ bits_of w) (low w a) (some_power w))
-unary_fits _ w a = fits_none w
+number_of_fits : (o : Option Operator) (w : Width) (a b : ℕ) → Fits w (option_map (λ o. number o w a b) o)
+number_of_fits None w a b = fits_none w
+number_of_fits (Some o) w a b = fits_some w _ (number_fits o w a b)
 
-unless_fits : (zero : Bool) (w : Width) (n : ℕ) → n < 2 ^ bits_of w → Fits w (if zero then None else Some n)
+unary_fits : (c : Code) (w : Width) (a : ℕ) → Fits w (unary c w a)
+unary_fits c w a = number_of_fits (alone (operator_of c)) w a 0
+
+unless_fits : (lacks : Bool) (w : Width) (n : ℕ) → n < 2 ^ bits_of w → Fits w (if lacks then None else Some n)
 unless_fits true w n less = fits_none w
 unless_fits false w n less = fits_some w n less
 
 binary_fits : (c : Code) (w : Width) (a b : ℕ) → Fits w (binary c w a b)
-binary_fits code.Plus w a b = fits_some w _ (low_fits w _)
-binary_fits code.Minus w a b = fits_some w _ (low_fits w _)
-binary_fits code.Mult w a b = fits_some w _ (low_fits w _)
-binary_fits code.Div w a b =
-    unless_fits (low w b == 0) w _ (if_less (low w b == 0) _ _ (2 ^ bits_of w) (all_ones (2 ^ bits_of w) (some_power w)) (wrapped_fits w _))
-binary_fits code.Udiv w a b = unless_fits (low w b == 0) w _ (if_less (low w b == 0) _ _ (2 ^ bits_of w)
-    (all_ones (2 ^ bits_of w) (some_power w))
-    (less_through (low w a / low w b) (low w a) (2 ^ bits_of w) (div-le_self (low w a) (low w b)) (low_fits w a)))
-binary_fits code.Mod w a b = unless_fits (low w b == 0) w _ (if_less (low w b == 0) _ _ (2 ^ bits_of w) (low_fits w a) (wrapped_fits w _))
-binary_fits code.Umod w a b = unless_fits (low w b == 0) w _ (if_less (low w b == 0) _ _ (2 ^ bits_of w) (low_fits w a)
-    (less_through (low w a % low w b) (low w a) (2 ^ bits_of w) (mod-le (low w a) (low w b)) (low_fits w a)))
-binary_fits code.And w a b = fits_some w _ (and_lt (bits_of w) (low w a) (low w b) (low_fits w a) (low_fits w b))
-binary_fits code.Ior w a b = fits_some w _ (or_lt (bits_of w) (low w a) (low w b) (low_fits w a) (low_fits w b))
-binary_fits code.Xor w a b = fits_some w _ (xor_lt (bits_of w) (low w a) (low w b) (low_fits w a) (low_fits w b))
-binary_fits _ w a b = fits_none w
+binary_fits c w a b = by (operator_of c)
+  where
+    by : (o : Option Operator) → Fits w (option_and_then (λ o. operated o w a b) o)
+    by None = fits_none w
+    by (Some o) = unless_fits (lacks (asks_of o) w b) w _ (number_fits o w a b)
 
 shifted_fits : (c : Code) (w : Width) (a b : ℕ) → Fits w (shifted c w a b)
-shifted_fits code.Ashift w a b = fits_some w _ (low_fits w _)
-shifted_fits code.Lshiftrt w a b = fits_some w _
-    (less_through (low w a / 2 ^ (b % bits_of w)) (low w a) (2 ^ bits_of w) (div-le_self (low w a) (2 ^ (b % bits_of w))) (low_fits w a))
-shifted_fits code.Ashiftrt w a b = fits_some w _ (wrapped_fits w _)
-shifted_fits _ w a b = fits_none w
+shifted_fits c w a b = number_of_fits (counting (operator_of c)) w a b
 
-truth_fits : (w : Width) (b : Bool) → Fits w (truth b)
+truth_fits : (w : Width) (b : Bool) → Fits w (Some (truth b))
 truth_fits w true = fits_some w 1 (more_than_one w)
 truth_fits w false = fits_some w 0 (some_power w)
 
 compared_fits : (c : Code) (w own : Width) (a b : ℕ) → Fits w (compared c own a b)
-compared_fits code.Eq w own a b = truth_fits w _
-compared_fits code.Ne w own a b = truth_fits w _
-compared_fits code.Lt w own a b = truth_fits w _
-compared_fits code.Ge w own a b = truth_fits w _
-compared_fits code.Gt w own a b = truth_fits w _
-compared_fits code.Le w own a b = truth_fits w _
-compared_fits code.Ltu w own a b = truth_fits w _
-compared_fits code.Geu w own a b = truth_fits w _
-compared_fits code.Gtu w own a b = truth_fits w _
-compared_fits code.Leu w own a b = truth_fits w _
-compared_fits _ w own a b = fits_none w
+compared_fits c w own a b = by (relation_in (operator_of c))
+  where
+    by : (r : Option Relation) → Fits w (option_map (λ r. truth (holds r own a b)) r)
+    by None = fits_none w
+    by (Some r) = truth_fits w (holds r own a b)
 
 converted_fits : (c : Code) (from to : Width) (a : ℕ) → Fits to (converted c from to a)
 converted_fits code.SignExtend from to a = fits_some to _ (low_fits to _)

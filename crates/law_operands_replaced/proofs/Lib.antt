@@ -30,6 +30,7 @@ pub mod WholeTurns
 pub mod SetValues
 pub mod EffectsThere
 pub mod JumpTrees
+pub use Rattle.bits64.proofs as bits64
 pub use Rattle.law_frame.proofs as law_frame
 pub use Rattle.md_match.proofs as md_match
 pub use Rattle.reload_operands.proofs as reload_operands

@@ -1,9 +1,15 @@
 -- What an expression has of its parts, where other parts stand in their places, each read in its own mode.
 use Rattle.std.proofs.Common.{◌≡◌, ◌⊎◌, ⊎_elim, inl, inr, ℕ, ◌*◌, ◌/◌, ◌%◌, ◌^◌, ◌&&◌, ◌||◌, not, Bool, true, false, List, [], ◌∷◌, Option, Some, None, refl, sym, ap, subst, ◌∙◌, arith}
 use Rattle.std.proofs.lemmas.Bool.{and_parts}
-use Rattle.std.specs.Prelude.{option_and_then}
-use Rattle.std.specs.Int.{int_shr}
-use Rattle.bits64.specs.Words.{bits_of, low, signed, wrapped}
+use Rattle.std.specs.Prelude.{option_map, option_and_then}
+use Rattle.bits64.specs.Words.{bits_of, low}
+use Rattle.bits64.specs.Operators.{number, taking_of, asks_of}
+use Rattle.bits64.specs.declared.operator.Operator.{Operator}
+use Rattle.bits64.specs.declared.operator.Taking.{Taking}
+use Rattle.bits64.specs.declared.operator.Taking.TheVariants.{Alone, Pair, Counted}
+use Rattle.bits64.specs.declared.operator.Asks.{Asks}
+use Rattle.bits64.specs.declared.operator.Asks.TheVariants.{Nothing, SecondNonzero}
+use Rattle.bits64.proofs.Operators.{counted}
 use Rattle.bits64.specs.declared.Width.{Width}
 use Rattle.bits64.specs.declared.Width.TheVariants.{W8, W16, W32, W64}
 use Rattle.rtx_tree.specs.declared.class.Class.{Class}
@@ -16,7 +22,7 @@ use Rattle.rtx_tree.specs.declared.memories.MemByte.{MemByte}
 use Rattle.rtx_tree.specs.declared.tree.Rtx.{Rtx, out-Rtx}
 use Rattle.run_memory.specs.RunMemory.{load}
 use Rattle.rtl_func.specs.Shapes.{class_at, mode_at, number_at, has_mode, same_mode, is_constant_class, is_constant, is_value, is_operand, is_some_operand, is_moded, are_compared, is_bare, fits_row, fits_one, fits_two, is_shaped}
-use Rattle.rtl_step.specs.Value.{Reading, width_of, unary, binary, shifted, compared, converted, of_one, of_two, of_converted, of_compared, first_width, count_width, value_of_one, value_of_two}
+use Rattle.rtl_step.specs.Value.{Reading, width_of, operator_of, asking_nothing, if_counted, counting, unary, binary, shifted, compared, converted, of_one, of_two, of_converted, of_compared, first_width, count_width, value_of_one, value_of_two}
 use Rattle.rtl_step.proofs.Too.{Too, too_then, too_two}
 use Rattle.law_operands_replaced.proofs.NewTrees.{is_lowpart_class}
 
@@ -123,11 +129,25 @@ low_count W64 W16 n = omega arith
 low_count W64 W32 n = omega arith
 low_count W64 W64 n = omega arith
 
+-- an operator, if there is one, goes by the low bits of a count
+abbrev GoesByLow : Width → Width → ℕ → ℕ → Option Operator → Type 0
+GoesByLow w v a n o = option_map (λ o. number o w a (low v n)) o ≡ option_map (λ o. number o w a n) o
+
 shifted_low : (c : Code) (w v : Width) (a n : ℕ) → shifted c w a (low v n) ≡ shifted c w a n
-shifted_low code.Ashift w v a n = ap (λ b. Some ((a * 2 ^ b) % 2 ^ bits_of w)) (low_count w v n)
-shifted_low code.Lshiftrt w v a n = ap (λ b. Some (low w a / 2 ^ b)) (low_count w v n)
-shifted_low code.Ashiftrt w v a n = ap (λ b. Some (wrapped w (int_shr (signed w a) b))) (low_count w v n)
-shifted_low _ w v a n = refl
+shifted_low c w v a n = by (operator_of c)
+  where
+    by_asks : (q : Asks) (o : Operator) → taking_of o ≡ Counted → GoesByLow w v a n (asking_nothing q o)
+    by_asks Nothing o is = ap Some (counted o w a (low v n) n is (low_count w v n))
+    by_asks SecondNonzero o is = refl
+
+    by_taking : (t : Taking) (o : Operator) → taking_of o ≡ t → GoesByLow w v a n (if_counted t o)
+    by_taking Alone o is = refl
+    by_taking Pair o is = refl
+    by_taking Counted o is = by_asks (asks_of o) o is
+
+    by : (o : Option Operator) → GoesByLow w v a n (counting o)
+    by None = refl
+    by (Some o) = by_taking (taking_of o) o refl
 
 own_count : (o : Option Width) → IsOwn o (count_width o)
 own_count None = own_none None W64 refl

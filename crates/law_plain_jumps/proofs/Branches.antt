@@ -3,6 +3,8 @@ use Rattle.std.proofs.Common.{◌≡◌, ℕ, suc, ◌<◌, ◌^◌, Bool, true,
 use Rattle.std.specs.Prelude.{ℤ}
 use Rattle.std.specs.List.{list_all}
 use Rattle.bits64.specs.declared.Width.TheVariants.{W8, W64}
+use Rattle.bits64.specs.declared.operator.Relation.{Relation}
+use Rattle.bits64.specs.declared.operator.Relation.TheVariants as relation
 use Rattle.rtx_tree.specs.declared.code.Code.{Code}
 use Rattle.rtx_tree.specs.declared.code.Code.TheVariants as code
 use Rattle.rtx_tree.specs.declared.code.Mode.{Mode}
@@ -13,10 +15,7 @@ use Rattle.rv_text.specs.Lines.{action_of}
 use Rattle.rv_text.specs.declared.line.Line.{Line}
 use Rattle.rv_text.specs.declared.action.Action.{Action}
 use Rattle.rv_text.specs.declared.action.Action.TheVariants.{Branch}
-use Rattle.rv_text.specs.declared.action.Comparison.TheVariants.{Equal, NotEqual, Less, NotLess, LessUnsigned, NotLessUnsigned}
 use Rattle.rv_text.specs.declared.action.Source.TheVariants.{First, Second}
-use Rattle.term_tree.specs.declared.head.Relation.{Relation}
-use Rattle.term_tree.specs.declared.head.Relation.TheVariants as relation
 use Rattle.term_tree.specs.Tree.{Tree}
 use Rattle.term_mean.specs.Sums.{constant}
 use Rattle.term_mean.specs.Compared.{compared}
@@ -50,16 +49,16 @@ code_of relation.Geu = code.Geu
 
 -- a line compares for less and not less alone, of its registers in one order or the other
 abbrev pub branch_of : Relation → Action
-branch_of relation.Eq = Branch Equal First Second
-branch_of relation.Ne = Branch NotEqual First Second
-branch_of relation.Lt = Branch Less First Second
-branch_of relation.Gt = Branch Less Second First
-branch_of relation.Le = Branch NotLess Second First
-branch_of relation.Ge = Branch NotLess First Second
-branch_of relation.Ltu = Branch LessUnsigned First Second
-branch_of relation.Gtu = Branch LessUnsigned Second First
-branch_of relation.Leu = Branch NotLessUnsigned Second First
-branch_of relation.Geu = Branch NotLessUnsigned First Second
+branch_of relation.Eq = Branch relation.Eq First Second
+branch_of relation.Ne = Branch relation.Ne First Second
+branch_of relation.Lt = Branch relation.Lt First Second
+branch_of relation.Gt = Branch relation.Lt Second First
+branch_of relation.Le = Branch relation.Ge Second First
+branch_of relation.Ge = Branch relation.Ge First Second
+branch_of relation.Ltu = Branch relation.Ltu First Second
+branch_of relation.Gtu = Branch relation.Ltu Second First
+branch_of relation.Leu = Branch relation.Geu Second First
+branch_of relation.Geu = Branch relation.Geu First Second
 
 -- ---- the instruction
 

@@ -5,10 +5,10 @@ use Rattle.std.specs.declared.cmp.Ordering.TheVariants.{Less, Equal, Greater}
 use Rattle.std.specs.Ordering.{nat_cmp, ordering_then}
 use Rattle.std.proofs.lemmas.Cmp.{nat_cmp_total}
 use Rattle.bits64.specs.declared.Width.TheVariants.{W64}
+use Rattle.bits64.specs.declared.operator.Relation.{Relation}
+use Rattle.bits64.specs.declared.operator.Relation.TheVariants as relation
 use Rattle.term_tree.specs.declared.head.Extension.{Extension}
 use Rattle.term_tree.specs.declared.head.Extension.TheVariants.{Zero, Sign}
-use Rattle.term_tree.specs.declared.head.Relation.{Relation}
-use Rattle.term_tree.specs.declared.head.Relation.TheVariants as relation
 use Rattle.term_tree.specs.Tree.{Tree}
 use Rattle.term_mean.specs.Sums.{constant}
 use Rattle.term_mean.specs.Masks.{made_8}

@@ -16,7 +16,6 @@ use Rattle.term_mean.specs.Sums.{summed}
 use Rattle.term_mean.specs.Compared.{low_bits}
 use Rattle.sym_state.specs.State.{Register}
 use Rattle.sym_state.specs.Makers.{one}
-use Rattle.sym_insns.specs.Value.{converted}
 use Rattle.rtx_open.proofs.Expressions.{Written, node, none, with}
 use Rattle.rv_text.specs.Lines.{action_of}
 use Rattle.rv_text.specs.declared.line.Line.{Line}
@@ -26,7 +25,7 @@ use Rattle.rv_text.specs.declared.action.Extension.TheVariants.{Zero, Sign}
 use Rattle.sym_state.specs.State.{State, Access, start, needs_at}
 use Rattle.sym_state.specs.Registers.{read, read_needs, put}
 use Rattle.sym_lines.specs.Run as lines
-use Rattle.law_plain_terms.specs.Rows.{line_address, insn_address, loaded_at, loads, IsSmall}
+use Rattle.law_plain_terms.specs.Rows.{line_address, insn_address, loaded_at, loads, IsSmall, converted}
 use Rattle.law_plain_terms.proofs.Memory as memory
 use Rattle.law_plain_terms.proofs.Memory.{same_address}
 use Rattle.law_plain_terms.proofs.SmallMemory as small_memory
@@ -118,42 +117,42 @@ load_di = row DI W64 (memory_of DI) (λ p. loaded_at W64 (address p)) Sign W64 r
 
 -- ---- fewer, extended
 
-pub sign_qi_si : LoadRow SI W32 (extends code.SignExtend SI QI) (λ p. converted [] code.SignExtend W32 (loaded_at W8 (address p))) Sign W8
-sign_qi_si = row SI W32 (extends code.SignExtend SI QI) (λ p. converted [] code.SignExtend W32 (loaded_at W8 (address p))) Sign W8 refl (λ p. refl) (λ p. refl)
+pub sign_qi_si : LoadRow SI W32 (extends code.SignExtend SI QI) (λ p. converted code.SignExtend W32 (loaded_at W8 (address p))) Sign W8
+sign_qi_si = row SI W32 (extends code.SignExtend SI QI) (λ p. converted code.SignExtend W32 (loaded_at W8 (address p))) Sign W8 refl (λ p. refl) (λ p. refl)
     (λ p. at_address (λ at. IsSmall (one [] heads.Sext W32 (loaded_at W8 at))) p (small_memory.insn_extends W8 p.0 (word p)).0) (λ p. refl) (λ p. refl) (λ p. memory.sign_8_32 (address p))
 
-pub zero_qi_si : LoadRow SI W32 (extends code.ZeroExtend SI QI) (λ p. converted [] code.ZeroExtend W32 (loaded_at W8 (address p))) Zero W8
-zero_qi_si = row SI W32 (extends code.ZeroExtend SI QI) (λ p. converted [] code.ZeroExtend W32 (loaded_at W8 (address p))) Zero W8 refl (λ p. refl) (λ p. refl)
+pub zero_qi_si : LoadRow SI W32 (extends code.ZeroExtend SI QI) (λ p. converted code.ZeroExtend W32 (loaded_at W8 (address p))) Zero W8
+zero_qi_si = row SI W32 (extends code.ZeroExtend SI QI) (λ p. converted code.ZeroExtend W32 (loaded_at W8 (address p))) Zero W8 refl (λ p. refl) (λ p. refl)
     (λ p. at_address (λ at. IsSmall (one [] heads.Zext W32 (loaded_at W8 at))) p (small_memory.insn_extends W8 p.0 (word p)).1) (λ p. refl) (λ p. refl) (λ p. memory.zero_8_32 (address p))
 
-pub sign_qi_di : LoadRow DI W64 (extends code.SignExtend DI QI) (λ p. converted [] code.SignExtend W64 (loaded_at W8 (address p))) Sign W8
-sign_qi_di = row DI W64 (extends code.SignExtend DI QI) (λ p. converted [] code.SignExtend W64 (loaded_at W8 (address p))) Sign W8 refl (λ p. refl) (λ p. refl)
+pub sign_qi_di : LoadRow DI W64 (extends code.SignExtend DI QI) (λ p. converted code.SignExtend W64 (loaded_at W8 (address p))) Sign W8
+sign_qi_di = row DI W64 (extends code.SignExtend DI QI) (λ p. converted code.SignExtend W64 (loaded_at W8 (address p))) Sign W8 refl (λ p. refl) (λ p. refl)
     (λ p. at_address (λ at. IsSmall (loads Sign W8 at)) p (small_memory.line_loads Sign W8 p.0 (word p))) (λ p. refl) (λ p. refl) (λ p. memory.sign_8_64 (address p))
 
-pub zero_qi_di : LoadRow DI W64 (extends code.ZeroExtend DI QI) (λ p. converted [] code.ZeroExtend W64 (loaded_at W8 (address p))) Zero W8
-zero_qi_di = row DI W64 (extends code.ZeroExtend DI QI) (λ p. converted [] code.ZeroExtend W64 (loaded_at W8 (address p))) Zero W8 refl (λ p. refl) (λ p. refl)
+pub zero_qi_di : LoadRow DI W64 (extends code.ZeroExtend DI QI) (λ p. converted code.ZeroExtend W64 (loaded_at W8 (address p))) Zero W8
+zero_qi_di = row DI W64 (extends code.ZeroExtend DI QI) (λ p. converted code.ZeroExtend W64 (loaded_at W8 (address p))) Zero W8 refl (λ p. refl) (λ p. refl)
     (λ p. at_address (λ at. IsSmall (loads Zero W8 at)) p (small_memory.line_loads Zero W8 p.0 (word p))) (λ p. refl) (λ p. refl) (λ p. memory.zero_8_64 (address p))
 
-pub sign_hi_si : LoadRow SI W32 (extends code.SignExtend SI HI) (λ p. converted [] code.SignExtend W32 (loaded_at W16 (address p))) Sign W16
-sign_hi_si = row SI W32 (extends code.SignExtend SI HI) (λ p. converted [] code.SignExtend W32 (loaded_at W16 (address p))) Sign W16 refl (λ p. refl) (λ p. refl)
+pub sign_hi_si : LoadRow SI W32 (extends code.SignExtend SI HI) (λ p. converted code.SignExtend W32 (loaded_at W16 (address p))) Sign W16
+sign_hi_si = row SI W32 (extends code.SignExtend SI HI) (λ p. converted code.SignExtend W32 (loaded_at W16 (address p))) Sign W16 refl (λ p. refl) (λ p. refl)
     (λ p. at_address (λ at. IsSmall (one [] heads.Sext W32 (loaded_at W16 at))) p (small_memory.insn_extends W16 p.0 (word p)).0) (λ p. refl) (λ p. refl) (λ p. memory.sign_16_32 (address p))
 
-pub zero_hi_si : LoadRow SI W32 (extends code.ZeroExtend SI HI) (λ p. converted [] code.ZeroExtend W32 (loaded_at W16 (address p))) Zero W16
-zero_hi_si = row SI W32 (extends code.ZeroExtend SI HI) (λ p. converted [] code.ZeroExtend W32 (loaded_at W16 (address p))) Zero W16 refl (λ p. refl) (λ p. refl)
+pub zero_hi_si : LoadRow SI W32 (extends code.ZeroExtend SI HI) (λ p. converted code.ZeroExtend W32 (loaded_at W16 (address p))) Zero W16
+zero_hi_si = row SI W32 (extends code.ZeroExtend SI HI) (λ p. converted code.ZeroExtend W32 (loaded_at W16 (address p))) Zero W16 refl (λ p. refl) (λ p. refl)
     (λ p. at_address (λ at. IsSmall (one [] heads.Zext W32 (loaded_at W16 at))) p (small_memory.insn_extends W16 p.0 (word p)).1) (λ p. refl) (λ p. refl) (λ p. memory.zero_16_32 (address p))
 
-pub sign_hi_di : LoadRow DI W64 (extends code.SignExtend DI HI) (λ p. converted [] code.SignExtend W64 (loaded_at W16 (address p))) Sign W16
-sign_hi_di = row DI W64 (extends code.SignExtend DI HI) (λ p. converted [] code.SignExtend W64 (loaded_at W16 (address p))) Sign W16 refl (λ p. refl) (λ p. refl)
+pub sign_hi_di : LoadRow DI W64 (extends code.SignExtend DI HI) (λ p. converted code.SignExtend W64 (loaded_at W16 (address p))) Sign W16
+sign_hi_di = row DI W64 (extends code.SignExtend DI HI) (λ p. converted code.SignExtend W64 (loaded_at W16 (address p))) Sign W16 refl (λ p. refl) (λ p. refl)
     (λ p. at_address (λ at. IsSmall (loads Sign W16 at)) p (small_memory.line_loads Sign W16 p.0 (word p))) (λ p. refl) (λ p. refl) (λ p. memory.sign_16_64 (address p))
 
-pub zero_hi_di : LoadRow DI W64 (extends code.ZeroExtend DI HI) (λ p. converted [] code.ZeroExtend W64 (loaded_at W16 (address p))) Zero W16
-zero_hi_di = row DI W64 (extends code.ZeroExtend DI HI) (λ p. converted [] code.ZeroExtend W64 (loaded_at W16 (address p))) Zero W16 refl (λ p. refl) (λ p. refl)
+pub zero_hi_di : LoadRow DI W64 (extends code.ZeroExtend DI HI) (λ p. converted code.ZeroExtend W64 (loaded_at W16 (address p))) Zero W16
+zero_hi_di = row DI W64 (extends code.ZeroExtend DI HI) (λ p. converted code.ZeroExtend W64 (loaded_at W16 (address p))) Zero W16 refl (λ p. refl) (λ p. refl)
     (λ p. at_address (λ at. IsSmall (loads Zero W16 at)) p (small_memory.line_loads Zero W16 p.0 (word p))) (λ p. refl) (λ p. refl) (λ p. memory.zero_16_64 (address p))
 
-pub sign_si_di : LoadRow DI W64 (extends code.SignExtend DI SI) (λ p. converted [] code.SignExtend W64 (loaded_at W32 (address p))) Sign W32
-sign_si_di = row DI W64 (extends code.SignExtend DI SI) (λ p. converted [] code.SignExtend W64 (loaded_at W32 (address p))) Sign W32 refl (λ p. refl) (λ p. refl)
+pub sign_si_di : LoadRow DI W64 (extends code.SignExtend DI SI) (λ p. converted code.SignExtend W64 (loaded_at W32 (address p))) Sign W32
+sign_si_di = row DI W64 (extends code.SignExtend DI SI) (λ p. converted code.SignExtend W64 (loaded_at W32 (address p))) Sign W32 refl (λ p. refl) (λ p. refl)
     (λ p. at_address (λ at. IsSmall (loads Sign W32 at)) p (small_memory.line_loads Sign W32 p.0 (word p))) (λ p. refl) (λ p. refl) (λ p. memory.sign_32_64 (address p))
 
-pub zero_si_di : LoadRow DI W64 (extends code.ZeroExtend DI SI) (λ p. converted [] code.ZeroExtend W64 (loaded_at W32 (address p))) Zero W32
-zero_si_di = row DI W64 (extends code.ZeroExtend DI SI) (λ p. converted [] code.ZeroExtend W64 (loaded_at W32 (address p))) Zero W32 refl (λ p. refl) (λ p. refl)
+pub zero_si_di : LoadRow DI W64 (extends code.ZeroExtend DI SI) (λ p. converted code.ZeroExtend W64 (loaded_at W32 (address p))) Zero W32
+zero_si_di = row DI W64 (extends code.ZeroExtend DI SI) (λ p. converted code.ZeroExtend W64 (loaded_at W32 (address p))) Zero W32 refl (λ p. refl) (λ p. refl)
     (λ p. at_address (λ at. IsSmall (loads Zero W32 at)) p (small_memory.line_loads Zero W32 p.0 (word p))) (λ p. refl) (λ p. refl) (λ p. memory.zero_32_64 (address p))

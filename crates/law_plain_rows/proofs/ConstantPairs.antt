@@ -2,11 +2,12 @@
 use Rattle.std.proofs.Common.{◌≡◌, ℕ, suc, [], ◌∷◌, Some, refl, sym, subst, ◌∙◌}
 use Rattle.bits64.specs.declared.Width.{Width}
 use Rattle.bits64.specs.declared.Width.TheVariants.{W32, W64}
+use Rattle.bits64.specs.declared.operator.Operator.TheVariants as operators
+use Rattle.bits64.specs.declared.operator.Relation.TheVariants as relation
 use Rattle.rtx_tree.specs.declared.code.Code.TheVariants as code
 use Rattle.rtx_tree.specs.declared.code.Mode.{Mode}
 use Rattle.rtx_tree.specs.declared.code.Mode.TheVariants.{SI, DI}
 use Rattle.rtl_step.specs.Value.{width_of}
-use Rattle.rv_text.specs.declared.action.Operation.TheVariants as operation
 use Rattle.term_tree.specs.declared.head.Head.TheVariants as heads
 use Rattle.term_tree.specs.declared.head.Extension.TheVariants.{Zero, Sign}
 use Rattle.term_tree.specs.Tree as trees
@@ -64,26 +65,26 @@ unsigned_reversed a c = sym (low_reversed (one [] heads.Zext W64 (less_than Zero
 pub first_less : (a c : ℕ) → IsSmall (one [] heads.Zext W64 (less_than Sign W64 (whole a) (constant W64 c))) × IsSmall (one [] heads.Zext W64 (less_than Zero W64 (whole a) (constant W64 c)))
 first_less a c = ((small_truths.less_constant a c).0, (small_truths.below_constant a c).0)
 
-pub sgei_si : PairRow SI W32 (compared code.Ge SI) (λ p. truth code.Ge W32 (whole p.0) (constant W64 (word p))) (λ p. reversed (line_value operation.Slt W64 p))
-sgei_si = row SI W32 (compared code.Ge SI) (λ p. truth code.Ge W32 (whole p.0) (constant W64 (word p))) (λ p. reversed (line_value operation.Slt W64 p)) refl (λ p. refl) (λ p. refl)
+pub sgei_si : PairRow SI W32 (compared code.Ge SI) (λ p. truth code.Ge W32 (whole p.0) (constant W64 (word p))) (λ p. reversed (line_value (operators.Test relation.Lt) W64 p))
+sgei_si = row SI W32 (compared code.Ge SI) (λ p. truth code.Ge W32 (whole p.0) (constant W64 (word p))) (λ p. reversed (line_value (operators.Test relation.Lt) W64 p)) refl (λ p. refl) (λ p. refl)
     (λ p. (small_truths.not_less_constant p.0 (word p)).1) (λ p. subst IsSmall (sym (signed_reversed p.0 (word p))) (small_truths.not_less_constant p.0 (word p)).0)
-    (λ p. width-built [] heads.Zext W32 0 [] (opposite (less_than Sign W64 (whole p.0) (constant W64 (word p))) ∷ [])) (λ p. wide_reversed (line_value operation.Slt W64 p))
+    (λ p. width-built [] heads.Zext W32 0 [] (opposite (less_than Sign W64 (whole p.0) (constant W64 (word p))) ∷ [])) (λ p. wide_reversed (line_value (operators.Test relation.Lt) W64 p))
     (λ p. less.sgei_32 p.0 (word p))
 
-pub sgei_di : PairRow DI W64 (compared code.Ge DI) (λ p. truth code.Ge W64 (whole p.0) (constant W64 (word p))) (λ p. reversed (line_value operation.Slt W64 p))
-sgei_di = row DI W64 (compared code.Ge DI) (λ p. truth code.Ge W64 (whole p.0) (constant W64 (word p))) (λ p. reversed (line_value operation.Slt W64 p)) refl (λ p. refl) (λ p. refl)
+pub sgei_di : PairRow DI W64 (compared code.Ge DI) (λ p. truth code.Ge W64 (whole p.0) (constant W64 (word p))) (λ p. reversed (line_value (operators.Test relation.Lt) W64 p))
+sgei_di = row DI W64 (compared code.Ge DI) (λ p. truth code.Ge W64 (whole p.0) (constant W64 (word p))) (λ p. reversed (line_value (operators.Test relation.Lt) W64 p)) refl (λ p. refl) (λ p. refl)
     (λ p. (small_truths.not_less_constant p.0 (word p)).0) (λ p. subst IsSmall (sym (signed_reversed p.0 (word p))) (small_truths.not_less_constant p.0 (word p)).0)
-    (λ p. width-built [] heads.Zext W64 0 [] (opposite (less_than Sign W64 (whole p.0) (constant W64 (word p))) ∷ [])) (λ p. wide_reversed (line_value operation.Slt W64 p))
+    (λ p. width-built [] heads.Zext W64 0 [] (opposite (less_than Sign W64 (whole p.0) (constant W64 (word p))) ∷ [])) (λ p. wide_reversed (line_value (operators.Test relation.Lt) W64 p))
     (λ p. less.sgei_64 p.0 (word p))
 
-pub sgeiu_si : PairRow SI W32 (compared code.Geu SI) (λ p. truth code.Geu W32 (whole p.0) (constant W64 (word p))) (λ p. reversed (line_value operation.Sltu W64 p))
-sgeiu_si = row SI W32 (compared code.Geu SI) (λ p. truth code.Geu W32 (whole p.0) (constant W64 (word p))) (λ p. reversed (line_value operation.Sltu W64 p)) refl (λ p. refl) (λ p. refl)
+pub sgeiu_si : PairRow SI W32 (compared code.Geu SI) (λ p. truth code.Geu W32 (whole p.0) (constant W64 (word p))) (λ p. reversed (line_value (operators.Test relation.Ltu) W64 p))
+sgeiu_si = row SI W32 (compared code.Geu SI) (λ p. truth code.Geu W32 (whole p.0) (constant W64 (word p))) (λ p. reversed (line_value (operators.Test relation.Ltu) W64 p)) refl (λ p. refl) (λ p. refl)
     (λ p. (small_truths.not_below_constant p.0 (word p)).1) (λ p. subst IsSmall (sym (unsigned_reversed p.0 (word p))) (small_truths.not_below_constant p.0 (word p)).0)
-    (λ p. width-built [] heads.Zext W32 0 [] (opposite (less_than Zero W64 (whole p.0) (constant W64 (word p))) ∷ [])) (λ p. wide_reversed (line_value operation.Sltu W64 p))
+    (λ p. width-built [] heads.Zext W32 0 [] (opposite (less_than Zero W64 (whole p.0) (constant W64 (word p))) ∷ [])) (λ p. wide_reversed (line_value (operators.Test relation.Ltu) W64 p))
     (λ p. less.sgeiu_32 p.0 (word p))
 
-pub sgeiu_di : PairRow DI W64 (compared code.Geu DI) (λ p. truth code.Geu W64 (whole p.0) (constant W64 (word p))) (λ p. reversed (line_value operation.Sltu W64 p))
-sgeiu_di = row DI W64 (compared code.Geu DI) (λ p. truth code.Geu W64 (whole p.0) (constant W64 (word p))) (λ p. reversed (line_value operation.Sltu W64 p)) refl (λ p. refl) (λ p. refl)
+pub sgeiu_di : PairRow DI W64 (compared code.Geu DI) (λ p. truth code.Geu W64 (whole p.0) (constant W64 (word p))) (λ p. reversed (line_value (operators.Test relation.Ltu) W64 p))
+sgeiu_di = row DI W64 (compared code.Geu DI) (λ p. truth code.Geu W64 (whole p.0) (constant W64 (word p))) (λ p. reversed (line_value (operators.Test relation.Ltu) W64 p)) refl (λ p. refl) (λ p. refl)
     (λ p. (small_truths.not_below_constant p.0 (word p)).0) (λ p. subst IsSmall (sym (unsigned_reversed p.0 (word p))) (small_truths.not_below_constant p.0 (word p)).0)
-    (λ p. width-built [] heads.Zext W64 0 [] (opposite (less_than Zero W64 (whole p.0) (constant W64 (word p))) ∷ [])) (λ p. wide_reversed (line_value operation.Sltu W64 p))
+    (λ p. width-built [] heads.Zext W64 0 [] (opposite (less_than Zero W64 (whole p.0) (constant W64 (word p))) ∷ [])) (λ p. wide_reversed (line_value (operators.Test relation.Ltu) W64 p))
     (λ p. less.sgeiu_64 p.0 (word p))

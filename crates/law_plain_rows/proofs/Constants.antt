@@ -4,10 +4,10 @@ use Rattle.std.specs.Prelude.{ℤ}
 use Rattle.std.specs.Int.{cast_unsigned, w64}
 use Rattle.bits64.specs.declared.Width.{Width}
 use Rattle.bits64.specs.declared.Width.TheVariants.{W8, W16, W32, W64}
+use Rattle.bits64.specs.declared.operator.Operator.TheVariants as operators
 use Rattle.rtx_tree.specs.declared.code.Mode.{Mode}
 use Rattle.rtx_tree.specs.declared.code.Mode.TheVariants.{QI, HI, SI, DI}
 use Rattle.rtl_step.specs.Value.{width_of}
-use Rattle.rv_text.specs.declared.action.Operation.TheVariants as operation
 use Rattle.rv_text.specs.declared.action.Source.TheVariants.{Immediate, Constant}
 use Rattle.term_tree.specs.Tree as trees
 use Rattle.term_tree.specs.Tree.{Tree}
@@ -30,15 +30,15 @@ use Rattle.law_plain_rows.proofs.WithConstant.{number}
 -- ---- what `li` loads
 
 abbrev pub loaded : ℤ → Tree
-loaded k = computed operation.Add (Constant (pos 0)) W64 (constant W64 (cast_unsigned w64 k)) (constant W64 0)
+loaded k = computed operators.Add W64 (constant W64 (cast_unsigned w64 k)) (constant W64 0)
 
 abbrev behind : ℕ → ℤ → State
 behind d k = record start { regs = put [] d (Some (loaded k)); needs = [] }
 
-pub loads : (number : ℕ) (l : Line) (n : ℕ) (k : ℤ) → action_of l ≡ Some (Compute operation.Add W64 Immediate (Constant (pos 0))) → l.rd ≡ suc n → l.imm ≡ k → LineSets number l n (loaded k) []
+pub loads : (number : ℕ) (l : Line) (n : ℕ) (k : ℤ) → action_of l ≡ Some (Compute operators.Add W64 Immediate (Constant (pos 0))) → l.rd ≡ suc n → l.imm ≡ k → LineSets number l n (loaded k) []
 loads number l n k does rd imm = record {
   fits = ap (λ o. lines.fits_action o []) does;
-  state = line_sets number l (Compute operation.Add W64 Immediate (Constant (pos 0))) does ∙ (ap (λ d. behind d l.imm) rd ∙ ap (λ c. behind (suc n) c) imm);
+  state = line_sets number l (Compute operators.Add W64 Immediate (Constant (pos 0))) does ∙ (ap (λ d. behind d l.imm) rd ∙ ap (λ c. behind (suc n) c) imm);
 }
 
 -- ---- the rows

@@ -3,13 +3,13 @@
 use Rattle.std.proofs.Common.{◌≡◌, ℕ, suc, pos, [], ◌∷◌, Some, refl, sym, subst, ◌∙◌}
 use Rattle.bits64.specs.declared.Width.{Width}
 use Rattle.bits64.specs.declared.Width.TheVariants.{W32, W64}
+use Rattle.bits64.specs.declared.operator.Operator.TheVariants as operators
+use Rattle.bits64.specs.declared.operator.Relation.TheVariants as relation
 use Rattle.rtx_tree.specs.declared.code.Code.{Code}
 use Rattle.rtx_tree.specs.declared.code.Code.TheVariants as code
 use Rattle.rtx_tree.specs.declared.code.Mode.{Mode}
 use Rattle.rtx_tree.specs.declared.code.Mode.TheVariants.{SI, DI}
 use Rattle.rtl_step.specs.Value.{width_of}
-use Rattle.rv_text.specs.declared.action.Operation.TheVariants as operation
-use Rattle.rv_text.specs.declared.action.Source.TheVariants.{First, Constant}
 use Rattle.term_tree.specs.declared.head.Head.TheVariants as heads
 use Rattle.term_tree.specs.declared.head.Extension.{Extension}
 use Rattle.term_tree.specs.declared.head.Extension.TheVariants.{Zero, Sign}
@@ -74,28 +74,28 @@ reversed_is : (e : Extension) (a b : ℕ) → reversed (one [] heads.Zext W64 (l
 reversed_is Sign a b = sym (low_reversed (one [] heads.Zext W64 (less_than Sign W64 (whole a) (whole b)))) ∙ comparisons.sge_64 a b
 reversed_is Zero a b = sym (low_reversed (one [] heads.Zext W64 (less_than Zero W64 (whole a) (whole b)))) ∙ comparisons.sgeu_64 a b
 
-pub sge_si : PairRow SI W32 (compared code.Ge SI) (λ p. truth code.Ge W32 (whole p.0) (whole p.1)) (λ p. reversed (line operation.Slt (whole p.0) (whole p.1)))
-sge_si = row SI W32 (compared code.Ge SI) (λ p. truth code.Ge W32 (whole p.0) (whole p.1)) (λ p. reversed (line operation.Slt (whole p.0) (whole p.1))) refl (λ p. refl) (λ p. refl)
+pub sge_si : PairRow SI W32 (compared code.Ge SI) (λ p. truth code.Ge W32 (whole p.0) (whole p.1)) (λ p. reversed (line (operators.Test relation.Lt) (whole p.0) (whole p.1)))
+sge_si = row SI W32 (compared code.Ge SI) (λ p. truth code.Ge W32 (whole p.0) (whole p.1)) (λ p. reversed (line (operators.Test relation.Lt) (whole p.0) (whole p.1))) refl (λ p. refl) (λ p. refl)
     (λ p. (small_truths.not_less Sign p.0 p.1).1) (λ p. subst IsSmall (sym (reversed_is Sign p.0 p.1)) (small_truths.not_less Sign p.0 p.1).0)
-    (λ p. width-built [] heads.Zext W32 0 [] (opposite (less_than Sign W64 (whole p.0) (whole p.1)) ∷ [])) (λ p. wide_reversed (line operation.Slt (whole p.0) (whole p.1)))
+    (λ p. width-built [] heads.Zext W32 0 [] (opposite (less_than Sign W64 (whole p.0) (whole p.1)) ∷ [])) (λ p. wide_reversed (line (operators.Test relation.Lt) (whole p.0) (whole p.1)))
     (λ p. comparisons.sge_32 p.0 p.1)
 
-pub sge_di : PairRow DI W64 (compared code.Ge DI) (λ p. truth code.Ge W64 (whole p.0) (whole p.1)) (λ p. reversed (line operation.Slt (whole p.0) (whole p.1)))
-sge_di = row DI W64 (compared code.Ge DI) (λ p. truth code.Ge W64 (whole p.0) (whole p.1)) (λ p. reversed (line operation.Slt (whole p.0) (whole p.1))) refl (λ p. refl) (λ p. refl)
+pub sge_di : PairRow DI W64 (compared code.Ge DI) (λ p. truth code.Ge W64 (whole p.0) (whole p.1)) (λ p. reversed (line (operators.Test relation.Lt) (whole p.0) (whole p.1)))
+sge_di = row DI W64 (compared code.Ge DI) (λ p. truth code.Ge W64 (whole p.0) (whole p.1)) (λ p. reversed (line (operators.Test relation.Lt) (whole p.0) (whole p.1))) refl (λ p. refl) (λ p. refl)
     (λ p. (small_truths.not_less Sign p.0 p.1).0) (λ p. subst IsSmall (sym (reversed_is Sign p.0 p.1)) (small_truths.not_less Sign p.0 p.1).0)
-    (λ p. width-built [] heads.Zext W64 0 [] (opposite (less_than Sign W64 (whole p.0) (whole p.1)) ∷ [])) (λ p. wide_reversed (line operation.Slt (whole p.0) (whole p.1)))
+    (λ p. width-built [] heads.Zext W64 0 [] (opposite (less_than Sign W64 (whole p.0) (whole p.1)) ∷ [])) (λ p. wide_reversed (line (operators.Test relation.Lt) (whole p.0) (whole p.1)))
     (λ p. comparisons.sge_64 p.0 p.1)
 
-pub sgeu_si : PairRow SI W32 (compared code.Geu SI) (λ p. truth code.Geu W32 (whole p.0) (whole p.1)) (λ p. reversed (line operation.Sltu (whole p.0) (whole p.1)))
-sgeu_si = row SI W32 (compared code.Geu SI) (λ p. truth code.Geu W32 (whole p.0) (whole p.1)) (λ p. reversed (line operation.Sltu (whole p.0) (whole p.1))) refl (λ p. refl) (λ p. refl)
+pub sgeu_si : PairRow SI W32 (compared code.Geu SI) (λ p. truth code.Geu W32 (whole p.0) (whole p.1)) (λ p. reversed (line (operators.Test relation.Ltu) (whole p.0) (whole p.1)))
+sgeu_si = row SI W32 (compared code.Geu SI) (λ p. truth code.Geu W32 (whole p.0) (whole p.1)) (λ p. reversed (line (operators.Test relation.Ltu) (whole p.0) (whole p.1))) refl (λ p. refl) (λ p. refl)
     (λ p. (small_truths.not_less Zero p.0 p.1).1) (λ p. subst IsSmall (sym (reversed_is Zero p.0 p.1)) (small_truths.not_less Zero p.0 p.1).0)
-    (λ p. width-built [] heads.Zext W32 0 [] (opposite (less_than Zero W64 (whole p.0) (whole p.1)) ∷ [])) (λ p. wide_reversed (line operation.Sltu (whole p.0) (whole p.1)))
+    (λ p. width-built [] heads.Zext W32 0 [] (opposite (less_than Zero W64 (whole p.0) (whole p.1)) ∷ [])) (λ p. wide_reversed (line (operators.Test relation.Ltu) (whole p.0) (whole p.1)))
     (λ p. comparisons.sgeu_32 p.0 p.1)
 
-pub sgeu_di : PairRow DI W64 (compared code.Geu DI) (λ p. truth code.Geu W64 (whole p.0) (whole p.1)) (λ p. reversed (line operation.Sltu (whole p.0) (whole p.1)))
-sgeu_di = row DI W64 (compared code.Geu DI) (λ p. truth code.Geu W64 (whole p.0) (whole p.1)) (λ p. reversed (line operation.Sltu (whole p.0) (whole p.1))) refl (λ p. refl) (λ p. refl)
+pub sgeu_di : PairRow DI W64 (compared code.Geu DI) (λ p. truth code.Geu W64 (whole p.0) (whole p.1)) (λ p. reversed (line (operators.Test relation.Ltu) (whole p.0) (whole p.1)))
+sgeu_di = row DI W64 (compared code.Geu DI) (λ p. truth code.Geu W64 (whole p.0) (whole p.1)) (λ p. reversed (line (operators.Test relation.Ltu) (whole p.0) (whole p.1))) refl (λ p. refl) (λ p. refl)
     (λ p. (small_truths.not_less Zero p.0 p.1).0) (λ p. subst IsSmall (sym (reversed_is Zero p.0 p.1)) (small_truths.not_less Zero p.0 p.1).0)
-    (λ p. width-built [] heads.Zext W64 0 [] (opposite (less_than Zero W64 (whole p.0) (whole p.1)) ∷ [])) (λ p. wide_reversed (line operation.Sltu (whole p.0) (whole p.1)))
+    (λ p. width-built [] heads.Zext W64 0 [] (opposite (less_than Zero W64 (whole p.0) (whole p.1)) ∷ [])) (λ p. wide_reversed (line (operators.Test relation.Ltu) (whole p.0) (whole p.1)))
     (λ p. comparisons.sgeu_64 p.0 p.1)
 
 -- what the first line leaves
@@ -105,10 +105,10 @@ first_less e a b = (small_truths.less e a b).0
 -- ---- equality: the difference, and whether it is 0
 
 abbrev pub less_one : Two → Tree
-less_one p = computed operation.Sltu (Constant (pos 1)) W64 (line operation.Sub (whole p.0) (whole p.1)) (constant W64 1)
+less_one p = computed (operators.Test relation.Ltu) W64 (line operators.Sub (whole p.0) (whole p.1)) (constant W64 1)
 
 abbrev pub above_nought : Two → Tree
-above_nought p = computed operation.Sltu First W64 (constant W64 0) (line operation.Sub (whole p.0) (whole p.1))
+above_nought p = computed (operators.Test relation.Ltu) W64 (constant W64 0) (line operators.Sub (whole p.0) (whole p.1))
 
 -- a comparison of a line has 64 bits
 wide_truth : (t : Tree) → trees.width_of (one [] heads.Zext W64 t) ≡ W64
@@ -118,34 +118,34 @@ truth_is : (t u : Tree) → low_bits W64 (one [] heads.Zext W64 t) ≡ u → one
 truth_is t u e = sym (low_same W64 (one [] heads.Zext W64 t) (wide_truth t)) ∙ e
 
 -- what the first line leaves
-pub first_difference : (a b : ℕ) → IsSmall (line operation.Sub (whole a) (whole b))
+pub first_difference : (a b : ℕ) → IsSmall (line operators.Sub (whole a) (whole b))
 first_difference a b = small_sums.sub_64 a b
 
-pub wide_difference : (a b : ℕ) → trees.width_of (line operation.Sub (whole a) (whole b)) ≡ W64
+pub wide_difference : (a b : ℕ) → trees.width_of (line operators.Sub (whole a) (whole b)) ≡ W64
 wide_difference a b = width-summed W64 0 ((1, whole a) ∷ (minus_one W64, whole b) ∷ [])
 
 pub seq_si : PairRow SI W32 (compared code.Eq SI) (λ p. truth code.Eq W32 (whole p.0) (whole p.1)) less_one
 seq_si = row SI W32 (compared code.Eq SI) (λ p. truth code.Eq W32 (whole p.0) (whole p.1)) less_one refl (λ p. refl) (λ p. refl)
-    (λ p. (small_truths.equal p.0 p.1).1) (λ p. subst IsSmall (sym (truth_is (less_than Zero W64 (low_bits W64 (line operation.Sub (whole p.0) (whole p.1))) (constant W64 1)) (truth code.Eq W64 (whole p.0) (whole p.1)) (equal.seq_64 p.0 p.1))) (small_truths.equal p.0 p.1).0)
-    (λ p. width-built [] heads.Zext W32 0 [] ((equals_zero W64 (summed W64 0 ((1, whole p.0) ∷ (minus_one W64, whole p.1) ∷ []))) ∷ [])) (λ p. wide_truth (less_than Zero W64 (low_bits W64 (line operation.Sub (whole p.0) (whole p.1))) (constant W64 1)))
+    (λ p. (small_truths.equal p.0 p.1).1) (λ p. subst IsSmall (sym (truth_is (less_than Zero W64 (low_bits W64 (line operators.Sub (whole p.0) (whole p.1))) (constant W64 1)) (truth code.Eq W64 (whole p.0) (whole p.1)) (equal.seq_64 p.0 p.1))) (small_truths.equal p.0 p.1).0)
+    (λ p. width-built [] heads.Zext W32 0 [] ((equals_zero W64 (summed W64 0 ((1, whole p.0) ∷ (minus_one W64, whole p.1) ∷ []))) ∷ [])) (λ p. wide_truth (less_than Zero W64 (low_bits W64 (line operators.Sub (whole p.0) (whole p.1))) (constant W64 1)))
     (λ p. equal.seq_32 p.0 p.1)
 
 pub seq_di : PairRow DI W64 (compared code.Eq DI) (λ p. truth code.Eq W64 (whole p.0) (whole p.1)) less_one
 seq_di = row DI W64 (compared code.Eq DI) (λ p. truth code.Eq W64 (whole p.0) (whole p.1)) less_one refl (λ p. refl) (λ p. refl)
-    (λ p. (small_truths.equal p.0 p.1).0) (λ p. subst IsSmall (sym (truth_is (less_than Zero W64 (low_bits W64 (line operation.Sub (whole p.0) (whole p.1))) (constant W64 1)) (truth code.Eq W64 (whole p.0) (whole p.1)) (equal.seq_64 p.0 p.1))) (small_truths.equal p.0 p.1).0)
-    (λ p. width-built [] heads.Zext W64 0 [] ((equals_zero W64 (summed W64 0 ((1, whole p.0) ∷ (minus_one W64, whole p.1) ∷ []))) ∷ [])) (λ p. wide_truth (less_than Zero W64 (low_bits W64 (line operation.Sub (whole p.0) (whole p.1))) (constant W64 1)))
+    (λ p. (small_truths.equal p.0 p.1).0) (λ p. subst IsSmall (sym (truth_is (less_than Zero W64 (low_bits W64 (line operators.Sub (whole p.0) (whole p.1))) (constant W64 1)) (truth code.Eq W64 (whole p.0) (whole p.1)) (equal.seq_64 p.0 p.1))) (small_truths.equal p.0 p.1).0)
+    (λ p. width-built [] heads.Zext W64 0 [] ((equals_zero W64 (summed W64 0 ((1, whole p.0) ∷ (minus_one W64, whole p.1) ∷ []))) ∷ [])) (λ p. wide_truth (less_than Zero W64 (low_bits W64 (line operators.Sub (whole p.0) (whole p.1))) (constant W64 1)))
     (λ p. equal.seq_64 p.0 p.1)
 
 pub sne_si : PairRow SI W32 (compared code.Ne SI) (λ p. truth code.Ne W32 (whole p.0) (whole p.1)) above_nought
 sne_si = row SI W32 (compared code.Ne SI) (λ p. truth code.Ne W32 (whole p.0) (whole p.1)) above_nought refl (λ p. refl) (λ p. refl)
-    (λ p. (small_truths.not_equal p.0 p.1).1) (λ p. subst IsSmall (sym (truth_is (less_than Zero W64 (constant W64 0) (low_bits W64 (line operation.Sub (whole p.0) (whole p.1)))) (truth code.Ne W64 (whole p.0) (whole p.1)) (equal.sne_64 p.0 p.1))) (small_truths.not_equal p.0 p.1).0)
-    (λ p. width-built [] heads.Zext W32 0 [] (opposite (equals_zero W64 (summed W64 0 ((1, whole p.0) ∷ (minus_one W64, whole p.1) ∷ []))) ∷ [])) (λ p. wide_truth (less_than Zero W64 (constant W64 0) (low_bits W64 (line operation.Sub (whole p.0) (whole p.1)))))
+    (λ p. (small_truths.not_equal p.0 p.1).1) (λ p. subst IsSmall (sym (truth_is (less_than Zero W64 (constant W64 0) (low_bits W64 (line operators.Sub (whole p.0) (whole p.1)))) (truth code.Ne W64 (whole p.0) (whole p.1)) (equal.sne_64 p.0 p.1))) (small_truths.not_equal p.0 p.1).0)
+    (λ p. width-built [] heads.Zext W32 0 [] (opposite (equals_zero W64 (summed W64 0 ((1, whole p.0) ∷ (minus_one W64, whole p.1) ∷ []))) ∷ [])) (λ p. wide_truth (less_than Zero W64 (constant W64 0) (low_bits W64 (line operators.Sub (whole p.0) (whole p.1)))))
     (λ p. equal.sne_32 p.0 p.1)
 
 pub sne_di : PairRow DI W64 (compared code.Ne DI) (λ p. truth code.Ne W64 (whole p.0) (whole p.1)) above_nought
 sne_di = row DI W64 (compared code.Ne DI) (λ p. truth code.Ne W64 (whole p.0) (whole p.1)) above_nought refl (λ p. refl) (λ p. refl)
-    (λ p. (small_truths.not_equal p.0 p.1).0) (λ p. subst IsSmall (sym (truth_is (less_than Zero W64 (constant W64 0) (low_bits W64 (line operation.Sub (whole p.0) (whole p.1)))) (truth code.Ne W64 (whole p.0) (whole p.1)) (equal.sne_64 p.0 p.1))) (small_truths.not_equal p.0 p.1).0)
-    (λ p. width-built [] heads.Zext W64 0 [] (opposite (equals_zero W64 (summed W64 0 ((1, whole p.0) ∷ (minus_one W64, whole p.1) ∷ []))) ∷ [])) (λ p. wide_truth (less_than Zero W64 (constant W64 0) (low_bits W64 (line operation.Sub (whole p.0) (whole p.1)))))
+    (λ p. (small_truths.not_equal p.0 p.1).0) (λ p. subst IsSmall (sym (truth_is (less_than Zero W64 (constant W64 0) (low_bits W64 (line operators.Sub (whole p.0) (whole p.1)))) (truth code.Ne W64 (whole p.0) (whole p.1)) (equal.sne_64 p.0 p.1))) (small_truths.not_equal p.0 p.1).0)
+    (λ p. width-built [] heads.Zext W64 0 [] (opposite (equals_zero W64 (summed W64 0 ((1, whole p.0) ∷ (minus_one W64, whole p.1) ∷ []))) ∷ [])) (λ p. wide_truth (less_than Zero W64 (constant W64 0) (low_bits W64 (line operators.Sub (whole p.0) (whole p.1)))))
     (λ p. equal.sne_64 p.0 p.1)
 
 -- ---- the greater of two: the line has the registers the other way round
@@ -173,50 +173,50 @@ turned_row m w x t u wide term needs insn_small line_small insn_wide line_wide s
   same = same;
 }
 
-pub sgt_si : TurnedRow SI W32 (turned code.Gt SI) (λ p. truth code.Gt W32 (whole p.1) (whole p.0)) (λ p. line operation.Slt (whole p.0) (whole p.1))
-sgt_si = turned_row SI W32 (turned code.Gt SI) (λ p. truth code.Gt W32 (whole p.1) (whole p.0)) (λ p. line operation.Slt (whole p.0) (whole p.1)) refl (λ p. refl) (λ p. refl)
+pub sgt_si : TurnedRow SI W32 (turned code.Gt SI) (λ p. truth code.Gt W32 (whole p.1) (whole p.0)) (λ p. line (operators.Test relation.Lt) (whole p.0) (whole p.1))
+sgt_si = turned_row SI W32 (turned code.Gt SI) (λ p. truth code.Gt W32 (whole p.1) (whole p.0)) (λ p. line (operators.Test relation.Lt) (whole p.0) (whole p.1)) refl (λ p. refl) (λ p. refl)
     (λ p. (small_truths.less Sign p.0 p.1).1) (λ p. (small_truths.less Sign p.0 p.1).0)
     (λ p. width-built [] heads.Zext W32 0 [] (less_than Sign W64 (whole p.0) (whole p.1) ∷ [])) (λ p. wide_truth (less_than Sign W64 (whole p.0) (whole p.1)))
     (λ p. comparisons.slt_32 p.0 p.1)
 
-pub sgt_di : TurnedRow DI W64 (turned code.Gt DI) (λ p. truth code.Gt W64 (whole p.1) (whole p.0)) (λ p. line operation.Slt (whole p.0) (whole p.1))
-sgt_di = turned_row DI W64 (turned code.Gt DI) (λ p. truth code.Gt W64 (whole p.1) (whole p.0)) (λ p. line operation.Slt (whole p.0) (whole p.1)) refl (λ p. refl) (λ p. refl)
+pub sgt_di : TurnedRow DI W64 (turned code.Gt DI) (λ p. truth code.Gt W64 (whole p.1) (whole p.0)) (λ p. line (operators.Test relation.Lt) (whole p.0) (whole p.1))
+sgt_di = turned_row DI W64 (turned code.Gt DI) (λ p. truth code.Gt W64 (whole p.1) (whole p.0)) (λ p. line (operators.Test relation.Lt) (whole p.0) (whole p.1)) refl (λ p. refl) (λ p. refl)
     (λ p. (small_truths.less Sign p.0 p.1).0) (λ p. (small_truths.less Sign p.0 p.1).0)
     (λ p. width-built [] heads.Zext W64 0 [] (less_than Sign W64 (whole p.0) (whole p.1) ∷ [])) (λ p. wide_truth (less_than Sign W64 (whole p.0) (whole p.1)))
     (λ p. comparisons.slt_64 p.0 p.1)
 
-pub sgtu_si : TurnedRow SI W32 (turned code.Gtu SI) (λ p. truth code.Gtu W32 (whole p.1) (whole p.0)) (λ p. line operation.Sltu (whole p.0) (whole p.1))
-sgtu_si = turned_row SI W32 (turned code.Gtu SI) (λ p. truth code.Gtu W32 (whole p.1) (whole p.0)) (λ p. line operation.Sltu (whole p.0) (whole p.1)) refl (λ p. refl) (λ p. refl)
+pub sgtu_si : TurnedRow SI W32 (turned code.Gtu SI) (λ p. truth code.Gtu W32 (whole p.1) (whole p.0)) (λ p. line (operators.Test relation.Ltu) (whole p.0) (whole p.1))
+sgtu_si = turned_row SI W32 (turned code.Gtu SI) (λ p. truth code.Gtu W32 (whole p.1) (whole p.0)) (λ p. line (operators.Test relation.Ltu) (whole p.0) (whole p.1)) refl (λ p. refl) (λ p. refl)
     (λ p. (small_truths.less Zero p.0 p.1).1) (λ p. (small_truths.less Zero p.0 p.1).0)
     (λ p. width-built [] heads.Zext W32 0 [] (less_than Zero W64 (whole p.0) (whole p.1) ∷ [])) (λ p. wide_truth (less_than Zero W64 (whole p.0) (whole p.1)))
     (λ p. comparisons.sltu_32 p.0 p.1)
 
-pub sgtu_di : TurnedRow DI W64 (turned code.Gtu DI) (λ p. truth code.Gtu W64 (whole p.1) (whole p.0)) (λ p. line operation.Sltu (whole p.0) (whole p.1))
-sgtu_di = turned_row DI W64 (turned code.Gtu DI) (λ p. truth code.Gtu W64 (whole p.1) (whole p.0)) (λ p. line operation.Sltu (whole p.0) (whole p.1)) refl (λ p. refl) (λ p. refl)
+pub sgtu_di : TurnedRow DI W64 (turned code.Gtu DI) (λ p. truth code.Gtu W64 (whole p.1) (whole p.0)) (λ p. line (operators.Test relation.Ltu) (whole p.0) (whole p.1))
+sgtu_di = turned_row DI W64 (turned code.Gtu DI) (λ p. truth code.Gtu W64 (whole p.1) (whole p.0)) (λ p. line (operators.Test relation.Ltu) (whole p.0) (whole p.1)) refl (λ p. refl) (λ p. refl)
     (λ p. (small_truths.less Zero p.0 p.1).0) (λ p. (small_truths.less Zero p.0 p.1).0)
     (λ p. width-built [] heads.Zext W64 0 [] (less_than Zero W64 (whole p.0) (whole p.1) ∷ [])) (λ p. wide_truth (less_than Zero W64 (whole p.0) (whole p.1)))
     (λ p. comparisons.sltu_64 p.0 p.1)
 
-pub sle_si : TurnedRow SI W32 (turned code.Le SI) (λ p. truth code.Le W32 (whole p.1) (whole p.0)) (λ p. reversed (line operation.Slt (whole p.0) (whole p.1)))
-sle_si = turned_row SI W32 (turned code.Le SI) (λ p. truth code.Le W32 (whole p.1) (whole p.0)) (λ p. reversed (line operation.Slt (whole p.0) (whole p.1))) refl (λ p. refl) (λ p. refl)
+pub sle_si : TurnedRow SI W32 (turned code.Le SI) (λ p. truth code.Le W32 (whole p.1) (whole p.0)) (λ p. reversed (line (operators.Test relation.Lt) (whole p.0) (whole p.1)))
+sle_si = turned_row SI W32 (turned code.Le SI) (λ p. truth code.Le W32 (whole p.1) (whole p.0)) (λ p. reversed (line (operators.Test relation.Lt) (whole p.0) (whole p.1))) refl (λ p. refl) (λ p. refl)
     (λ p. (small_truths.not_less Sign p.0 p.1).1) (λ p. subst IsSmall (sym (reversed_is Sign p.0 p.1)) (small_truths.not_less Sign p.0 p.1).0)
-    (λ p. width-built [] heads.Zext W32 0 [] (opposite (less_than Sign W64 (whole p.0) (whole p.1)) ∷ [])) (λ p. wide_reversed (line operation.Slt (whole p.0) (whole p.1)))
+    (λ p. width-built [] heads.Zext W32 0 [] (opposite (less_than Sign W64 (whole p.0) (whole p.1)) ∷ [])) (λ p. wide_reversed (line (operators.Test relation.Lt) (whole p.0) (whole p.1)))
     (λ p. comparisons.sge_32 p.0 p.1)
 
-pub sle_di : TurnedRow DI W64 (turned code.Le DI) (λ p. truth code.Le W64 (whole p.1) (whole p.0)) (λ p. reversed (line operation.Slt (whole p.0) (whole p.1)))
-sle_di = turned_row DI W64 (turned code.Le DI) (λ p. truth code.Le W64 (whole p.1) (whole p.0)) (λ p. reversed (line operation.Slt (whole p.0) (whole p.1))) refl (λ p. refl) (λ p. refl)
+pub sle_di : TurnedRow DI W64 (turned code.Le DI) (λ p. truth code.Le W64 (whole p.1) (whole p.0)) (λ p. reversed (line (operators.Test relation.Lt) (whole p.0) (whole p.1)))
+sle_di = turned_row DI W64 (turned code.Le DI) (λ p. truth code.Le W64 (whole p.1) (whole p.0)) (λ p. reversed (line (operators.Test relation.Lt) (whole p.0) (whole p.1))) refl (λ p. refl) (λ p. refl)
     (λ p. (small_truths.not_less Sign p.0 p.1).0) (λ p. subst IsSmall (sym (reversed_is Sign p.0 p.1)) (small_truths.not_less Sign p.0 p.1).0)
-    (λ p. width-built [] heads.Zext W64 0 [] (opposite (less_than Sign W64 (whole p.0) (whole p.1)) ∷ [])) (λ p. wide_reversed (line operation.Slt (whole p.0) (whole p.1)))
+    (λ p. width-built [] heads.Zext W64 0 [] (opposite (less_than Sign W64 (whole p.0) (whole p.1)) ∷ [])) (λ p. wide_reversed (line (operators.Test relation.Lt) (whole p.0) (whole p.1)))
     (λ p. comparisons.sge_64 p.0 p.1)
 
-pub sleu_si : TurnedRow SI W32 (turned code.Leu SI) (λ p. truth code.Leu W32 (whole p.1) (whole p.0)) (λ p. reversed (line operation.Sltu (whole p.0) (whole p.1)))
-sleu_si = turned_row SI W32 (turned code.Leu SI) (λ p. truth code.Leu W32 (whole p.1) (whole p.0)) (λ p. reversed (line operation.Sltu (whole p.0) (whole p.1))) refl (λ p. refl) (λ p. refl)
+pub sleu_si : TurnedRow SI W32 (turned code.Leu SI) (λ p. truth code.Leu W32 (whole p.1) (whole p.0)) (λ p. reversed (line (operators.Test relation.Ltu) (whole p.0) (whole p.1)))
+sleu_si = turned_row SI W32 (turned code.Leu SI) (λ p. truth code.Leu W32 (whole p.1) (whole p.0)) (λ p. reversed (line (operators.Test relation.Ltu) (whole p.0) (whole p.1))) refl (λ p. refl) (λ p. refl)
     (λ p. (small_truths.not_less Zero p.0 p.1).1) (λ p. subst IsSmall (sym (reversed_is Zero p.0 p.1)) (small_truths.not_less Zero p.0 p.1).0)
-    (λ p. width-built [] heads.Zext W32 0 [] (opposite (less_than Zero W64 (whole p.0) (whole p.1)) ∷ [])) (λ p. wide_reversed (line operation.Sltu (whole p.0) (whole p.1)))
+    (λ p. width-built [] heads.Zext W32 0 [] (opposite (less_than Zero W64 (whole p.0) (whole p.1)) ∷ [])) (λ p. wide_reversed (line (operators.Test relation.Ltu) (whole p.0) (whole p.1)))
     (λ p. comparisons.sgeu_32 p.0 p.1)
 
-pub sleu_di : TurnedRow DI W64 (turned code.Leu DI) (λ p. truth code.Leu W64 (whole p.1) (whole p.0)) (λ p. reversed (line operation.Sltu (whole p.0) (whole p.1)))
-sleu_di = turned_row DI W64 (turned code.Leu DI) (λ p. truth code.Leu W64 (whole p.1) (whole p.0)) (λ p. reversed (line operation.Sltu (whole p.0) (whole p.1))) refl (λ p. refl) (λ p. refl)
+pub sleu_di : TurnedRow DI W64 (turned code.Leu DI) (λ p. truth code.Leu W64 (whole p.1) (whole p.0)) (λ p. reversed (line (operators.Test relation.Ltu) (whole p.0) (whole p.1)))
+sleu_di = turned_row DI W64 (turned code.Leu DI) (λ p. truth code.Leu W64 (whole p.1) (whole p.0)) (λ p. reversed (line (operators.Test relation.Ltu) (whole p.0) (whole p.1))) refl (λ p. refl) (λ p. refl)
     (λ p. (small_truths.not_less Zero p.0 p.1).0) (λ p. subst IsSmall (sym (reversed_is Zero p.0 p.1)) (small_truths.not_less Zero p.0 p.1).0)
-    (λ p. width-built [] heads.Zext W64 0 [] (opposite (less_than Zero W64 (whole p.0) (whole p.1)) ∷ [])) (λ p. wide_reversed (line operation.Sltu (whole p.0) (whole p.1)))
+    (λ p. width-built [] heads.Zext W64 0 [] (opposite (less_than Zero W64 (whole p.0) (whole p.1)) ∷ [])) (λ p. wide_reversed (line (operators.Test relation.Ltu) (whole p.0) (whole p.1)))
     (λ p. comparisons.sgeu_64 p.0 p.1)

@@ -5,10 +5,10 @@ use Rattle.std.specs.Prelude.{ℤ}
 use Rattle.std.specs.Int.{cast_unsigned, w64}
 use Rattle.bits64.specs.declared.Width.{Width}
 use Rattle.bits64.specs.declared.Width.TheVariants.{W8, W64}
+use Rattle.bits64.specs.declared.operator.Operator.{Operator}
 use Rattle.rv_text.specs.Lines.{action_of}
 use Rattle.rv_text.specs.declared.line.Line.{Line}
 use Rattle.rv_text.specs.declared.action.Action.TheVariants.{Compute}
-use Rattle.rv_text.specs.declared.action.Operation.{Operation}
 use Rattle.rv_text.specs.declared.action.Source.TheVariants.{First, Immediate, Constant}
 use Rattle.term_tree.specs.Tree.{Tree, width_of}
 use Rattle.term_tree.specs.Form.{narrower}
@@ -65,45 +65,45 @@ behind d regs needs v more = record start { regs = put regs d (Some v); needs = 
 set_again : (n : ℕ) (u v : Tree) (needs : List NeedAt) → behind (suc n) (set_to n u) needs v [] ≡ sets (suc n) v needs
 set_again n u v needs = ap (λ regs. record start { regs = regs; needs = needs ++ [] }) (put_back n u v) ∙ ap (λ ns. sets (suc n) v ns) (bare_end needs)
 
-module _ (op : Operation) (v : Width) (number : ℕ) (l : Line) (n : ℕ) (u : Tree) (needs : List NeedAt) (wide : width_of u ≡ W64) (rd : l.rd ≡ suc n) (rs : l.rs ≡ suc n) where
+module _ (op : Operator) (v : Width) (number : ℕ) (l : Line) (n : ℕ) (u : Tree) (needs : List NeedAt) (wide : width_of u ≡ W64) (rd : l.rd ≡ suc n) (rs : l.rs ≡ suc n) where
   -- what it reads
   abbrev first : List Changed
   first = set_to n u
 
   -- with an immediate
   abbrev with : ℕ → ℕ → ℤ → State
-  with d s k = behind d first needs (computed op Immediate v (read first s W64) (constant W64 (cast_unsigned w64 k))) (read_needs first s W8 ++ [])
+  with d s k = behind d first needs (computed op v (read first s W64) (constant W64 (cast_unsigned w64 k))) (read_needs first s W8 ++ [])
 
-  with_read : (k : ℤ) → with (suc n) (suc n) k ≡ sets (suc n) (computed op Immediate v u (constant W64 (cast_unsigned w64 k))) needs
+  with_read : (k : ℤ) → with (suc n) (suc n) k ≡ sets (suc n) (computed op v u (constant W64 (cast_unsigned w64 k))) needs
   with_read k =
-      ap (λ x. behind (suc n) first needs (computed op Immediate v x (constant W64 (cast_unsigned w64 k))) (read_needs first (suc n) W8 ++ [])) (read_back n u wide) ∙
-      (ap (λ ns. behind (suc n) first needs (computed op Immediate v u (constant W64 (cast_unsigned w64 k))) (ns ++ [])) (needs_back n u wide) ∙ set_again n u (computed op Immediate v u (constant W64 (cast_unsigned w64 k))) needs)
+      ap (λ x. behind (suc n) first needs (computed op v x (constant W64 (cast_unsigned w64 k))) (read_needs first (suc n) W8 ++ [])) (read_back n u wide) ∙
+      (ap (λ ns. behind (suc n) first needs (computed op v u (constant W64 (cast_unsigned w64 k))) (ns ++ [])) (needs_back n u wide) ∙ set_again n u (computed op v u (constant W64 (cast_unsigned w64 k))) needs)
 
   pub second_immediate : (k : ℤ) → action_of l ≡ Some (Compute op v First Immediate) → l.imm ≡ k →
-      lines.after number 1 l (sets (suc n) u needs) ≡ sets (suc n) (computed op Immediate v u (constant W64 (cast_unsigned w64 k))) needs
+      lines.after number 1 l (sets (suc n) u needs) ≡ sets (suc n) (computed op v u (constant W64 (cast_unsigned w64 k))) needs
   second_immediate k does imm =
       ap (λ o. lines.act_as o number 1 l (sets (suc n) u needs)) does ∙ (ap (λ d. with d l.rs l.imm) rd ∙ (ap (λ s. with (suc n) s l.imm) rs ∙ (ap (λ c. with (suc n) (suc n) c) imm ∙ with_read k)))
 
   -- with a constant of the mnemonic on the right, and on the left
   abbrev fixed : ℤ → ℕ → ℕ → State
-  fixed k d s = behind d first needs (computed op (Constant k) v (read first s W64) (constant W64 (cast_unsigned w64 k))) (read_needs first s W8 ++ [])
+  fixed k d s = behind d first needs (computed op v (read first s W64) (constant W64 (cast_unsigned w64 k))) (read_needs first s W8 ++ [])
 
   pub second_fixed : (k : ℤ) → action_of l ≡ Some (Compute op v First (Constant k)) →
-      lines.after number 1 l (sets (suc n) u needs) ≡ sets (suc n) (computed op (Constant k) v u (constant W64 (cast_unsigned w64 k))) needs
+      lines.after number 1 l (sets (suc n) u needs) ≡ sets (suc n) (computed op v u (constant W64 (cast_unsigned w64 k))) needs
   second_fixed k does =
       ap (λ o. lines.act_as o number 1 l (sets (suc n) u needs)) does ∙ (ap (λ d. fixed k d l.rs) rd ∙ (ap (λ s. fixed k (suc n) s) rs ∙
-      (ap (λ x. behind (suc n) first needs (computed op (Constant k) v x (constant W64 (cast_unsigned w64 k))) (read_needs first (suc n) W8 ++ [])) (read_back n u wide) ∙
-      (ap (λ ns. behind (suc n) first needs (computed op (Constant k) v u (constant W64 (cast_unsigned w64 k))) (ns ++ [])) (needs_back n u wide) ∙ set_again n u (computed op (Constant k) v u (constant W64 (cast_unsigned w64 k))) needs))))
+      (ap (λ x. behind (suc n) first needs (computed op v x (constant W64 (cast_unsigned w64 k))) (read_needs first (suc n) W8 ++ [])) (read_back n u wide) ∙
+      (ap (λ ns. behind (suc n) first needs (computed op v u (constant W64 (cast_unsigned w64 k))) (ns ++ [])) (needs_back n u wide) ∙ set_again n u (computed op v u (constant W64 (cast_unsigned w64 k))) needs))))
 
   abbrev from : ℤ → ℕ → ℕ → State
-  from k d s = behind d first needs (computed op First v (constant W64 (cast_unsigned w64 k)) (read first s W64)) (read_needs first s W8)
+  from k d s = behind d first needs (computed op v (constant W64 (cast_unsigned w64 k)) (read first s W64)) (read_needs first s W8)
 
   pub second_from : (k : ℤ) → action_of l ≡ Some (Compute op v (Constant k) First) →
-      lines.after number 1 l (sets (suc n) u needs) ≡ sets (suc n) (computed op First v (constant W64 (cast_unsigned w64 k)) u) needs
+      lines.after number 1 l (sets (suc n) u needs) ≡ sets (suc n) (computed op v (constant W64 (cast_unsigned w64 k)) u) needs
   second_from k does =
       ap (λ o. lines.act_as o number 1 l (sets (suc n) u needs)) does ∙ (ap (λ d. from k d l.rs) rd ∙ (ap (λ s. from k (suc n) s) rs ∙
-      (ap (λ x. behind (suc n) first needs (computed op First v (constant W64 (cast_unsigned w64 k)) x) (read_needs first (suc n) W8)) (read_back n u wide) ∙
-      (ap (λ ns. behind (suc n) first needs (computed op First v (constant W64 (cast_unsigned w64 k)) u) ns) (needs_back n u wide) ∙ set_again n u (computed op First v (constant W64 (cast_unsigned w64 k)) u) needs))))
+      (ap (λ x. behind (suc n) first needs (computed op v (constant W64 (cast_unsigned w64 k)) x) (read_needs first (suc n) W8)) (read_back n u wide) ∙
+      (ap (λ ns. behind (suc n) first needs (computed op v (constant W64 (cast_unsigned w64 k)) u) ns) (needs_back n u wide) ∙ set_again n u (computed op v (constant W64 (cast_unsigned w64 k)) u) needs))))
 
 -- ---- both lines
 

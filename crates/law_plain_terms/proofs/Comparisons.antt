@@ -4,8 +4,9 @@ use Rattle.std.specs.declared.cmp.Ordering.{Ordering}
 use Rattle.std.specs.declared.cmp.Ordering.TheVariants.{Less, Equal, Greater}
 use Rattle.std.specs.Ordering.{nat_cmp, ordering_then}
 use Rattle.bits64.specs.declared.Width.TheVariants.{W32, W64}
+use Rattle.bits64.specs.declared.operator.Operator.TheVariants as operators
+use Rattle.bits64.specs.declared.operator.Relation.TheVariants as relation
 use Rattle.rtx_tree.specs.declared.code.Code.TheVariants as code
-use Rattle.rv_text.specs.declared.action.Operation.TheVariants as operation
 use Rattle.term_tree.specs.declared.head.Extension.{Extension}
 use Rattle.term_tree.specs.declared.head.Extension.TheVariants.{Zero, Sign}
 use Rattle.term_tree.specs.Tree.{Tree}
@@ -34,18 +35,18 @@ cut_by Zero Less a b = refl
 cut_by Zero Equal a b = refl
 cut_by Zero Greater a b = refl
 
-pub slt_32 : (a b : ℕ) → Compares operation.Slt code.Lt W32 (whole a) (whole b)
+pub slt_32 : (a b : ℕ) → Compares (operators.Test relation.Lt) code.Lt W32 (whole a) (whole b)
 unfolding less_test
 slt_32 a b = cut_by Sign (nat_cmp (suc a) (suc b)) a b
 
-pub slt_64 : (a b : ℕ) → Compares operation.Slt code.Lt W64 (whole a) (whole b)
+pub slt_64 : (a b : ℕ) → Compares (operators.Test relation.Lt) code.Lt W64 (whole a) (whole b)
 slt_64 a b = whole_truth (less_than Sign W64 (whole a) (whole b))
 
-pub sltu_32 : (a b : ℕ) → Compares operation.Sltu code.Ltu W32 (whole a) (whole b)
+pub sltu_32 : (a b : ℕ) → Compares (operators.Test relation.Ltu) code.Ltu W32 (whole a) (whole b)
 unfolding less_test
 sltu_32 a b = cut_by Zero (nat_cmp (suc a) (suc b)) a b
 
-pub sltu_64 : (a b : ℕ) → Compares operation.Sltu code.Ltu W64 (whole a) (whole b)
+pub sltu_64 : (a b : ℕ) → Compares (operators.Test relation.Ltu) code.Ltu W64 (whole a) (whole b)
 sltu_64 a b = whole_truth (less_than Zero W64 (whole a) (whole b))
 
 -- ---- and not less: the exclusive or with 1 is the opposite
@@ -68,18 +69,18 @@ reversed_32 Zero Less a b = refl
 reversed_32 Zero Equal a b = refl
 reversed_32 Zero Greater a b = refl
 
-pub sge_32 : (a b : ℕ) → Reverses operation.Slt code.Ge W32 (whole a) (whole b)
+pub sge_32 : (a b : ℕ) → Reverses (operators.Test relation.Lt) code.Ge W32 (whole a) (whole b)
 unfolding less_test
 sge_32 a b = reversed_32 Sign (nat_cmp (suc a) (suc b)) a b
 
-pub sge_64 : (a b : ℕ) → Reverses operation.Slt code.Ge W64 (whole a) (whole b)
+pub sge_64 : (a b : ℕ) → Reverses (operators.Test relation.Lt) code.Ge W64 (whole a) (whole b)
 unfolding less_test
 sge_64 a b = reversed_64 Sign (nat_cmp (suc a) (suc b)) a b
 
-pub sgeu_32 : (a b : ℕ) → Reverses operation.Sltu code.Geu W32 (whole a) (whole b)
+pub sgeu_32 : (a b : ℕ) → Reverses (operators.Test relation.Ltu) code.Geu W32 (whole a) (whole b)
 unfolding less_test
 sgeu_32 a b = reversed_32 Zero (nat_cmp (suc a) (suc b)) a b
 
-pub sgeu_64 : (a b : ℕ) → Reverses operation.Sltu code.Geu W64 (whole a) (whole b)
+pub sgeu_64 : (a b : ℕ) → Reverses (operators.Test relation.Ltu) code.Geu W64 (whole a) (whole b)
 unfolding less_test
 sgeu_64 a b = reversed_64 Zero (nat_cmp (suc a) (suc b)) a b

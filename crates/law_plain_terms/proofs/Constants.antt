@@ -3,8 +3,8 @@ use Rattle.std.proofs.Common.{◌≡◌, ℕ, ◌-◌, ◌^◌, ◌==◌, Bool, 
 use Rattle.bits64.specs.declared.Width.{Width}
 use Rattle.bits64.specs.declared.Width.TheVariants.{W8, W16, W32, W64}
 use Rattle.bits64.specs.Words.{low}
+use Rattle.bits64.specs.declared.operator.Operator.TheVariants as operators
 use Rattle.rtx_tree.specs.declared.code.Code.TheVariants as code
-use Rattle.rv_text.specs.declared.action.Operation.TheVariants as operation
 use Rattle.term_tree.specs.declared.head.Head.TheVariants as heads
 use Rattle.term_tree.specs.declared.head.Joint.{Joint}
 use Rattle.term_tree.specs.declared.head.Joint.TheVariants.{And, Ior, Xor}
@@ -23,13 +23,13 @@ use Rattle.law_plain_terms.proofs.Back.{low_same, low_constant_32}
 
 -- ---- 64 bits
 
-pub andi_64 : WithConstant operation.And W64 code.And W64
+pub andi_64 : WithConstant operators.And W64 code.And W64
 andi_64 a c = low_same W64 (two [] heads.And W64 (whole a) (constant W64 c)) (width-built [] heads.And W64 0 [] (whole a ∷ constant W64 c ∷ []))
 
-pub ori_64 : WithConstant operation.Or W64 code.Ior W64
+pub ori_64 : WithConstant operators.Ior W64 code.Ior W64
 ori_64 a c = low_same W64 (two [] heads.Ior W64 (whole a) (constant W64 c)) (width-built [] heads.Ior W64 0 [] (whole a ∷ constant W64 c ∷ []))
 
-pub xori_64 : WithConstant operation.Xor W64 code.Xor W64
+pub xori_64 : WithConstant operators.Xor W64 code.Xor W64
 xori_64 a c = low_same W64 (two [] heads.Xor W64 (whole a) (constant W64 c)) (width-built [] heads.Xor W64 0 [] (whole a ∷ constant W64 c ∷ []))
 
 -- ---- 32 bits: what cutting makes of a register with a constant of 64 bits
@@ -97,14 +97,14 @@ low_number j c = ap (low W32) (join-start_right j W64 (low W64 (low W64 c))) ∙
 same_number : (j : Joint) (a c : ℕ) → at_32 j a (number j c) ≡ at_32 j a c
 same_number j a c = ap (λ n. made_32 j (part W32 a ∷ Sum W32 n no_atoms ∷ [])) (low_number j c)
 
-pub andi_32 : WithConstant operation.And W64 code.And W32
+pub andi_32 : WithConstant operators.And W64 code.And W32
 unfolding made_64
 andi_32 a c = let n = number And c in and_masked (n == 2 ^ 8 - 1) (n == 2 ^ 16 - 1) (n == 2 ^ 32 - 1) n a refl refl refl ∙ same_number And a c
 
-pub ori_32 : WithConstant operation.Or W64 code.Ior W32
+pub ori_32 : WithConstant operators.Ior W64 code.Ior W32
 unfolding made_64
 ori_32 a c = let n = number Ior c in or_finished (n == 2 ^ 64 - 1) (n == 0) n a refl refl ∙ same_number Ior a c
 
-pub xori_32 : WithConstant operation.Xor W64 code.Xor W32
+pub xori_32 : WithConstant operators.Xor W64 code.Xor W32
 unfolding made_64
 xori_32 a c = let n = number Xor c in xor_finished (n == 0) n a refl ∙ same_number Xor a c

@@ -6,8 +6,9 @@ use Rattle.std.specs.Ordering.{nat_cmp, ordering_then, ordering_reverse}
 use Rattle.std.proofs.lemmas.Cmp.{nat_cmp_total}
 use Rattle.bits64.specs.declared.Width.{Width}
 use Rattle.bits64.specs.declared.Width.TheVariants.{W8, W32, W64}
+use Rattle.bits64.specs.declared.operator.Operator.TheVariants as operators
+use Rattle.bits64.specs.declared.operator.Relation.TheVariants as relation
 use Rattle.rtx_tree.specs.declared.code.Code.TheVariants as code
-use Rattle.rv_text.specs.declared.action.Operation.TheVariants as operation
 use Rattle.term_tree.specs.declared.head.Head.TheVariants as heads
 use Rattle.term_tree.specs.Tree.{Tree}
 use Rattle.term_tree.specs.Order.{numbers_cmp}
@@ -96,20 +97,20 @@ module _ (a b : ℕ) where
   tests : equals_zero W64 d ≡ test o a b
   tests = is_test o a b refl (nat_cmp_total.antisymm (suc a) (suc b))
 
-  below : (w : Width) → low_bits w (line operation.Sltu (line operation.Sub (whole a) (whole b)) (constant W64 1)) ≡ low_bits w (in_64 (equals_zero W64 d))
+  below : (w : Width) → low_bits w (line (operators.Test relation.Ltu) (line operators.Sub (whole a) (whole b)) (constant W64 1)) ≡ low_bits w (in_64 (equals_zero W64 d))
   below w = ap (λ t. low_bits w (in_64 (less_than Zero W64 t (constant W64 1)))) (sub_64 a b) ∙ ap (λ t. low_bits w (in_64 t)) (is_below o a b)
 
-  above : (w : Width) → low_bits w (line operation.Sltu (constant W64 0) (line operation.Sub (whole a) (whole b))) ≡ low_bits w (in_64 (opposite (equals_zero W64 d)))
+  above : (w : Width) → low_bits w (line (operators.Test relation.Ltu) (constant W64 0) (line operators.Sub (whole a) (whole b))) ≡ low_bits w (in_64 (opposite (equals_zero W64 d)))
   above w = ap (λ t. low_bits w (in_64 (less_than Zero W64 (constant W64 0) t))) (sub_64 a b) ∙ ap (λ t. low_bits w (in_64 t)) (is_above o a b)
 
-  pub seq_64 : low_bits W64 (line operation.Sltu (line operation.Sub (whole a) (whole b)) (constant W64 1)) ≡ truth code.Eq W64 (whole a) (whole b)
+  pub seq_64 : low_bits W64 (line (operators.Test relation.Ltu) (line operators.Sub (whole a) (whole b)) (constant W64 1)) ≡ truth code.Eq W64 (whole a) (whole b)
   seq_64 = below W64 ∙ whole_truth (equals_zero W64 d)
 
-  pub seq_32 : low_bits W32 (line operation.Sltu (line operation.Sub (whole a) (whole b)) (constant W64 1)) ≡ truth code.Eq W32 (whole a) (whole b)
+  pub seq_32 : low_bits W32 (line (operators.Test relation.Ltu) (line operators.Sub (whole a) (whole b)) (constant W64 1)) ≡ truth code.Eq W32 (whole a) (whole b)
   seq_32 = below W32 ∙ (ap (λ t. low_bits W32 (in_64 t)) tests ∙ (cut_test o a b ∙ ap in_32 (sym tests)))
 
-  pub sne_64 : low_bits W64 (line operation.Sltu (constant W64 0) (line operation.Sub (whole a) (whole b))) ≡ truth code.Ne W64 (whole a) (whole b)
+  pub sne_64 : low_bits W64 (line (operators.Test relation.Ltu) (constant W64 0) (line operators.Sub (whole a) (whole b))) ≡ truth code.Ne W64 (whole a) (whole b)
   sne_64 = above W64 ∙ whole_truth (opposite (equals_zero W64 d))
 
-  pub sne_32 : low_bits W32 (line operation.Sltu (constant W64 0) (line operation.Sub (whole a) (whole b))) ≡ truth code.Ne W32 (whole a) (whole b)
+  pub sne_32 : low_bits W32 (line (operators.Test relation.Ltu) (constant W64 0) (line operators.Sub (whole a) (whole b))) ≡ truth code.Ne W32 (whole a) (whole b)
   sne_32 = above W32 ∙ (ap (λ t. low_bits W32 (in_64 (opposite t))) tests ∙ (cut_opposite o a b ∙ ap (λ t. in_32 (opposite t)) (sym tests)))

@@ -2,8 +2,9 @@
 use Rattle.std.proofs.Common.{◌≡◌, ℕ, ◌==◌, Bool, true, false, if◌then◌else◌, refl}
 use Rattle.bits64.specs.declared.Width.TheVariants.{W32, W64}
 use Rattle.bits64.specs.Words.{low}
+use Rattle.bits64.specs.declared.operator.Operator.TheVariants as operators
+use Rattle.bits64.specs.declared.operator.Relation.TheVariants as relation
 use Rattle.rtx_tree.specs.declared.code.Code.TheVariants as code
-use Rattle.rv_text.specs.declared.action.Operation.TheVariants as operation
 use Rattle.term_tree.specs.declared.head.Head.TheVariants as heads
 use Rattle.term_tree.specs.Tree.{Tree}
 use Rattle.term_mean.specs.Sums.{constant}
@@ -16,19 +17,19 @@ use Rattle.term_mean.specs.Compared.{low_bits}
 use Rattle.law_plain_terms.proofs.Back.{in_64, in_32}
 use Rattle.law_plain_terms.specs.Rows.{whole, reversed, Compares, Reverses}
 
-pub slti_64 : (a c : ℕ) → Compares operation.Slt code.Lt W64 (whole a) (constant W64 c)
+pub slti_64 : (a c : ℕ) → Compares (operators.Test relation.Lt) code.Lt W64 (whole a) (constant W64 c)
 unfolding less_test
 slti_64 a c = refl
 
-pub slti_32 : (a c : ℕ) → Compares operation.Slt code.Lt W32 (whole a) (constant W64 c)
+pub slti_32 : (a c : ℕ) → Compares (operators.Test relation.Lt) code.Lt W32 (whole a) (constant W64 c)
 unfolding less_test cut_32
 slti_32 a c = refl
 
-pub sgei_64 : (a c : ℕ) → Reverses operation.Slt code.Ge W64 (whole a) (constant W64 c)
+pub sgei_64 : (a c : ℕ) → Reverses (operators.Test relation.Lt) code.Ge W64 (whole a) (constant W64 c)
 unfolding less_test made_8 made_64
 sgei_64 a c = refl
 
-pub sgei_32 : (a c : ℕ) → Reverses operation.Slt code.Ge W32 (whole a) (constant W64 c)
+pub sgei_32 : (a c : ℕ) → Reverses (operators.Test relation.Lt) code.Ge W32 (whole a) (constant W64 c)
 unfolding less_test cut_32 made_8 made_32 made_64
 sgei_32 a c = refl
 
@@ -61,18 +62,18 @@ reversed_32 false a c = refl
 abbrev is_one : ℕ → Bool
 is_one c = low W64 (low W64 c) == 1
 
-pub sltiu_64 : (a c : ℕ) → Compares operation.Sltu code.Ltu W64 (whole a) (constant W64 c)
+pub sltiu_64 : (a c : ℕ) → Compares (operators.Test relation.Ltu) code.Ltu W64 (whole a) (constant W64 c)
 unfolding less_test
 sltiu_64 a c = below_64 (is_one c) a c
 
-pub sltiu_32 : (a c : ℕ) → Compares operation.Sltu code.Ltu W32 (whole a) (constant W64 c)
+pub sltiu_32 : (a c : ℕ) → Compares (operators.Test relation.Ltu) code.Ltu W32 (whole a) (constant W64 c)
 unfolding less_test
 sltiu_32 a c = below_32 (is_one c) a c
 
-pub sgeiu_64 : (a c : ℕ) → Reverses operation.Sltu code.Geu W64 (whole a) (constant W64 c)
+pub sgeiu_64 : (a c : ℕ) → Reverses (operators.Test relation.Ltu) code.Geu W64 (whole a) (constant W64 c)
 unfolding less_test
 sgeiu_64 a c = reversed_64 (is_one c) a c
 
-pub sgeiu_32 : (a c : ℕ) → Reverses operation.Sltu code.Geu W32 (whole a) (constant W64 c)
+pub sgeiu_32 : (a c : ℕ) → Reverses (operators.Test relation.Ltu) code.Geu W32 (whole a) (constant W64 c)
 unfolding less_test
 sgeiu_32 a c = reversed_32 (is_one c) a c

@@ -5,8 +5,8 @@ use Rattle.std.specs.declared.cmp.Ordering.TheVariants.{Less, Equal, Greater}
 use Rattle.std.specs.Ordering.{nat_cmp, ordering_then, ordering_reverse}
 use Rattle.std.proofs.lemmas.Cmp.{nat_cmp_total}
 use Rattle.bits64.specs.declared.Width.TheVariants.{W32, W64}
+use Rattle.bits64.specs.declared.operator.Operator.TheVariants as operators
 use Rattle.rtx_tree.specs.declared.code.Code.TheVariants as code
-use Rattle.rv_text.specs.declared.action.Operation.TheVariants as operation
 use Rattle.term_tree.specs.declared.head.Head.TheVariants as heads
 use Rattle.term_tree.specs.declared.head.Joint.{Joint}
 use Rattle.term_tree.specs.declared.head.Joint.TheVariants.{And, Ior, Xor}
@@ -21,13 +21,13 @@ use Rattle.law_plain_terms.proofs.Back.{low_same}
 
 -- ---- 64 bits
 
-pub and_64 : OfRegisters operation.And W64 code.And W64
+pub and_64 : OfRegisters operators.And W64 code.And W64
 and_64 a b = low_same W64 (two [] heads.And W64 (whole a) (whole b)) (width-built [] heads.And W64 0 [] (whole a ∷ whole b ∷ []))
 
-pub or_64 : OfRegisters operation.Or W64 code.Ior W64
+pub or_64 : OfRegisters operators.Ior W64 code.Ior W64
 or_64 a b = low_same W64 (two [] heads.Ior W64 (whole a) (whole b)) (width-built [] heads.Ior W64 0 [] (whole a ∷ whole b ∷ []))
 
-pub xor_64 : OfRegisters operation.Xor W64 code.Xor W64
+pub xor_64 : OfRegisters operators.Xor W64 code.Xor W64
 xor_64 a b = low_same W64 (two [] heads.Xor W64 (whole a) (whole b)) (width-built [] heads.Xor W64 0 [] (whole a ∷ whole b ∷ []))
 
 -- ---- 32 bits: by the order of the two registers' numbers
@@ -64,14 +64,14 @@ xor_by Less a b e r = ap (λ p. joined_32 Xor p b a) r
 xor_by Equal a b e r = refl
 xor_by Greater a b e r = ap (λ p. joined_32 Xor p a b) e
 
-pub and_32 : OfRegisters operation.And W64 code.And W32
+pub and_32 : OfRegisters operators.And W64 code.And W32
 unfolding cut_32 made_32 made_64
 and_32 a b = and_by (nat_cmp (suc b) (suc a)) a b refl (nat_cmp_total.antisymm (suc a) (suc b))
 
-pub or_32 : OfRegisters operation.Or W64 code.Ior W32
+pub or_32 : OfRegisters operators.Ior W64 code.Ior W32
 unfolding cut_32 made_32 made_64
 or_32 a b = or_by (nat_cmp (suc b) (suc a)) a b refl (nat_cmp_total.antisymm (suc a) (suc b))
 
-pub xor_32 : OfRegisters operation.Xor W64 code.Xor W32
+pub xor_32 : OfRegisters operators.Xor W64 code.Xor W32
 unfolding cut_32 made_32 made_64
 xor_32 a b = xor_by (nat_cmp (suc b) (suc a)) a b refl (nat_cmp_total.antisymm (suc a) (suc b))

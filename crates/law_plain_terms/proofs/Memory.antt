@@ -8,8 +8,7 @@ use Rattle.term_tree.specs.Tree.{Tree}
 use Rattle.term_mean.specs.Sums.{sum}
 use Rattle.term_mean.specs.Masks.{cut_8, cut_16, cut_32}
 use Rattle.term_mean.specs.Compared.{low_bits}
-use Rattle.sym_insns.specs.Value.{converted}
-use Rattle.law_plain_terms.specs.Rows.{whole, line_address, insn_address, loaded_at, loads}
+use Rattle.law_plain_terms.specs.Rows.{whole, line_address, insn_address, loaded_at, loads, converted}
 
 -- ---- addresses
 
@@ -42,36 +41,36 @@ load_8 at = refl
 
 -- ---- loads that extend
 
-pub sign_8_64 : (at : Tree) → low_bits W64 (loads Sign W8 at) ≡ converted [] code.SignExtend W64 (loaded_at W8 at)
+pub sign_8_64 : (at : Tree) → low_bits W64 (loads Sign W8 at) ≡ converted code.SignExtend W64 (loaded_at W8 at)
 sign_8_64 at = refl
 
-pub sign_8_32 : (at : Tree) → low_bits W32 (loads Sign W8 at) ≡ converted [] code.SignExtend W32 (loaded_at W8 at)
+pub sign_8_32 : (at : Tree) → low_bits W32 (loads Sign W8 at) ≡ converted code.SignExtend W32 (loaded_at W8 at)
 unfolding cut_32
 sign_8_32 at = refl
 
-pub sign_16_64 : (at : Tree) → low_bits W64 (loads Sign W16 at) ≡ converted [] code.SignExtend W64 (loaded_at W16 at)
+pub sign_16_64 : (at : Tree) → low_bits W64 (loads Sign W16 at) ≡ converted code.SignExtend W64 (loaded_at W16 at)
 sign_16_64 at = refl
 
-pub sign_16_32 : (at : Tree) → low_bits W32 (loads Sign W16 at) ≡ converted [] code.SignExtend W32 (loaded_at W16 at)
+pub sign_16_32 : (at : Tree) → low_bits W32 (loads Sign W16 at) ≡ converted code.SignExtend W32 (loaded_at W16 at)
 unfolding cut_32
 sign_16_32 at = refl
 
-pub sign_32_64 : (at : Tree) → low_bits W64 (loads Sign W32 at) ≡ converted [] code.SignExtend W64 (loaded_at W32 at)
+pub sign_32_64 : (at : Tree) → low_bits W64 (loads Sign W32 at) ≡ converted code.SignExtend W64 (loaded_at W32 at)
 sign_32_64 at = refl
 
-pub zero_8_64 : (at : Tree) → low_bits W64 (loads Zero W8 at) ≡ converted [] code.ZeroExtend W64 (loaded_at W8 at)
+pub zero_8_64 : (at : Tree) → low_bits W64 (loads Zero W8 at) ≡ converted code.ZeroExtend W64 (loaded_at W8 at)
 zero_8_64 at = refl
 
-pub zero_8_32 : (at : Tree) → low_bits W32 (loads Zero W8 at) ≡ converted [] code.ZeroExtend W32 (loaded_at W8 at)
+pub zero_8_32 : (at : Tree) → low_bits W32 (loads Zero W8 at) ≡ converted code.ZeroExtend W32 (loaded_at W8 at)
 unfolding cut_32
 zero_8_32 at = refl
 
-pub zero_16_64 : (at : Tree) → low_bits W64 (loads Zero W16 at) ≡ converted [] code.ZeroExtend W64 (loaded_at W16 at)
+pub zero_16_64 : (at : Tree) → low_bits W64 (loads Zero W16 at) ≡ converted code.ZeroExtend W64 (loaded_at W16 at)
 zero_16_64 at = refl
 
-pub zero_16_32 : (at : Tree) → low_bits W32 (loads Zero W16 at) ≡ converted [] code.ZeroExtend W32 (loaded_at W16 at)
+pub zero_16_32 : (at : Tree) → low_bits W32 (loads Zero W16 at) ≡ converted code.ZeroExtend W32 (loaded_at W16 at)
 unfolding cut_32
 zero_16_32 at = refl
 
-pub zero_32_64 : (at : Tree) → low_bits W64 (loads Zero W32 at) ≡ converted [] code.ZeroExtend W64 (loaded_at W32 at)
+pub zero_32_64 : (at : Tree) → low_bits W64 (loads Zero W32 at) ≡ converted code.ZeroExtend W64 (loaded_at W32 at)
 zero_32_64 at = refl

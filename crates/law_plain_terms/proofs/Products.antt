@@ -3,8 +3,9 @@ use Rattle.std.proofs.Common.{ℕ, refl, [], ◌∷◌}
 use Rattle.std.specs.declared.cmp.Ordering.{Ordering}
 use Rattle.std.specs.declared.cmp.Ordering.TheVariants.{Less, Equal, Greater}
 use Rattle.bits64.specs.declared.Width.TheVariants.{W32, W64}
+use Rattle.bits64.specs.declared.operator.Operator.TheVariants as operators
+use Rattle.bits64.specs.declared.operator.Opaque.TheVariants as opaque
 use Rattle.rtx_tree.specs.declared.code.Code.TheVariants as code
-use Rattle.rv_text.specs.declared.action.Operation.TheVariants as operation
 use Rattle.term_tree.specs.declared.head.Head.TheVariants as heads
 use Rattle.term_tree.specs.declared.head.Joint.TheVariants.{Mul}
 use Rattle.term_tree.specs.Order.{tree_cmp}
@@ -21,37 +22,37 @@ back_mul Less a b = refl
 back_mul Equal a b = refl
 back_mul Greater a b = refl
 
-pub mul_32 : OfRegisters operation.Mul W32 code.Mult W32
+pub mul_32 : OfRegisters operators.Mul W32 code.Mult W32
 unfolding cut_32 made_32
 mul_32 a b = back_mul (tree_cmp (part W32 b) (part W32 a)) a b
 
-pub mul_64 : OfRegisters operation.Mul W64 code.Mult W64
+pub mul_64 : OfRegisters operators.Mul W64 code.Mult W64
 mul_64 a b = low_same W64 (two [] heads.Mul W64 (whole a) (whole b)) (width-built [] heads.Mul W64 0 [] (whole a ∷ whole b ∷ []))
 
-pub div_32 : OfRegisters operation.Div W32 code.Div W32
+pub div_32 : OfRegisters (operators.Opaque opaque.Div) W32 code.Div W32
 unfolding cut_32
 div_32 a b = refl
 
-pub div_64 : OfRegisters operation.Div W64 code.Div W64
+pub div_64 : OfRegisters (operators.Opaque opaque.Div) W64 code.Div W64
 div_64 a b = refl
 
-pub divu_32 : OfRegisters operation.Divu W32 code.Udiv W32
+pub divu_32 : OfRegisters (operators.Opaque opaque.Udiv) W32 code.Udiv W32
 unfolding cut_32
 divu_32 a b = refl
 
-pub divu_64 : OfRegisters operation.Divu W64 code.Udiv W64
+pub divu_64 : OfRegisters (operators.Opaque opaque.Udiv) W64 code.Udiv W64
 divu_64 a b = refl
 
-pub rem_32 : OfRegisters operation.Rem W32 code.Mod W32
+pub rem_32 : OfRegisters (operators.Opaque opaque.Rem) W32 code.Mod W32
 unfolding cut_32
 rem_32 a b = refl
 
-pub rem_64 : OfRegisters operation.Rem W64 code.Mod W64
+pub rem_64 : OfRegisters (operators.Opaque opaque.Rem) W64 code.Mod W64
 rem_64 a b = refl
 
-pub remu_32 : OfRegisters operation.Remu W32 code.Umod W32
+pub remu_32 : OfRegisters (operators.Opaque opaque.Urem) W32 code.Umod W32
 unfolding cut_32
 remu_32 a b = refl
 
-pub remu_64 : OfRegisters operation.Remu W64 code.Umod W64
+pub remu_64 : OfRegisters (operators.Opaque opaque.Urem) W64 code.Umod W64
 remu_64 a b = refl

@@ -3,8 +3,8 @@ use Rattle.std.proofs.Common.{◌≡◌, ℕ, zero, suc, ◌%◌, ◌^◌, ◌*�
 use Rattle.bits64.specs.declared.Width.{Width}
 use Rattle.bits64.specs.declared.Width.TheVariants.{W8, W32, W64}
 use Rattle.bits64.specs.Words.{low, sum_of, product_of}
+use Rattle.bits64.specs.declared.operator.Operator.TheVariants as operators
 use Rattle.rtx_tree.specs.declared.code.Code.TheVariants as code
-use Rattle.rv_text.specs.declared.action.Operation.TheVariants as operation
 use Rattle.term_tree.specs.declared.head.Head.{Head}
 use Rattle.term_tree.specs.declared.head.Head.TheVariants as heads
 use Rattle.term_tree.specs.declared.head.Extension.{Extension}
@@ -20,27 +20,27 @@ use Rattle.law_plain_terms.proofs.Back.{Back, extended_64, low_same, low_constan
 
 -- ---- by a register
 
-pub sll_32 : Shifts operation.Sll W32 code.Ashift W32
+pub sll_32 : Shifts operators.Shl W32 code.Ashift W32
 unfolding cut_32 cut_8
 sll_32 a b = refl
 
-pub srl_32 : Shifts operation.Srl W32 code.Lshiftrt W32
+pub srl_32 : Shifts operators.Shr W32 code.Lshiftrt W32
 unfolding cut_32 cut_8
 srl_32 a b = refl
 
-pub sra_32 : Shifts operation.Sra W32 code.Ashiftrt W32
+pub sra_32 : Shifts operators.Sar W32 code.Ashiftrt W32
 unfolding cut_32 cut_8
 sra_32 a b = refl
 
-pub sll_64 : Shifts operation.Sll W64 code.Ashift W64
+pub sll_64 : Shifts operators.Shl W64 code.Ashift W64
 unfolding cut_8
 sll_64 a b = refl
 
-pub srl_64 : Shifts operation.Srl W64 code.Lshiftrt W64
+pub srl_64 : Shifts operators.Shr W64 code.Lshiftrt W64
 unfolding cut_8
 srl_64 a b = refl
 
-pub sra_64 : Shifts operation.Sra W64 code.Ashiftrt W64
+pub sra_64 : Shifts operators.Sar W64 code.Ashiftrt W64
 unfolding cut_8
 sra_64 a b = refl
 
@@ -80,23 +80,23 @@ whole_count h w a c = ap (λ t. shifted_by h w a t) (sym (low_constant_64_8 c))
 abbrev rest_32 : ℕ → ℕ
 rest_32 c = low W8 (low W8 c) % 32
 
-pub slli_32 : ShiftsBy operation.Sll W32 code.Ashift W32
+pub slli_32 : ShiftsBy operators.Shl W32 code.Ashift W32
 unfolding cut_32
 slli_32 a c = count_32 heads.Shl c a (back_shl (rest_32 c) a) ∙ whole_count heads.Shl W32 (part W32 a) c
 
-pub srli_32 : ShiftsBy operation.Srl W32 code.Lshiftrt W32
+pub srli_32 : ShiftsBy operators.Shr W32 code.Lshiftrt W32
 unfolding cut_32
 srli_32 a c = count_32 heads.Shr c a (back_shr (rest_32 c) a) ∙ whole_count heads.Shr W32 (part W32 a) c
 
-pub srai_32 : ShiftsBy operation.Sra W32 code.Ashiftrt W32
+pub srai_32 : ShiftsBy operators.Sar W32 code.Ashiftrt W32
 unfolding cut_32
 srai_32 a c = count_32 heads.Sar c a (back_sar (rest_32 c) a) ∙ whole_count heads.Sar W32 (part W32 a) c
 
-pub slli_64 : ShiftsBy operation.Sll W64 code.Ashift W64
+pub slli_64 : ShiftsBy operators.Shl W64 code.Ashift W64
 slli_64 a c = low_same W64 (shifted heads.Shl W64 (whole a) (constant W64 c)) (width-built [] heads.Shl W64 0 [] (whole a ∷ constant W64 c ∷ []))
 
-pub srli_64 : ShiftsBy operation.Srl W64 code.Lshiftrt W64
+pub srli_64 : ShiftsBy operators.Shr W64 code.Lshiftrt W64
 srli_64 a c = low_same W64 (shifted heads.Shr W64 (whole a) (constant W64 c)) (width-built [] heads.Shr W64 0 [] (whole a ∷ constant W64 c ∷ []))
 
-pub srai_64 : ShiftsBy operation.Sra W64 code.Ashiftrt W64
+pub srai_64 : ShiftsBy operators.Sar W64 code.Ashiftrt W64
 srai_64 a c = low_same W64 (shifted heads.Sar W64 (whole a) (constant W64 c)) (width-built [] heads.Sar W64 0 [] (whole a ∷ constant W64 c ∷ []))

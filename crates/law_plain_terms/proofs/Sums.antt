@@ -5,8 +5,8 @@ use Rattle.std.specs.declared.cmp.Ordering.TheVariants.{Less, Equal, Greater}
 use Rattle.bits64.specs.declared.Width.{Width}
 use Rattle.bits64.specs.declared.Width.TheVariants.{W32, W64}
 use Rattle.bits64.specs.Words.{low, sum_of, product_of}
+use Rattle.bits64.specs.declared.operator.Operator.TheVariants as operators
 use Rattle.rtx_tree.specs.declared.code.Code.TheVariants as code
-use Rattle.rv_text.specs.declared.action.Operation.TheVariants as operation
 use Rattle.term_tree.specs.Tree.{Tree}
 use Rattle.term_tree.specs.Order.{tree_cmp}
 use Rattle.term_mean.specs.Sums.{constant, sum, summed, placed}
@@ -37,47 +37,47 @@ back_sub Greater a b = refl
 
 -- ---- add and sub
 
-pub add_64 : OfRegisters operation.Add W64 code.Plus W64
+pub add_64 : OfRegisters operators.Add W64 code.Plus W64
 add_64 a b = low_same W64 (summed W64 0 ((1, whole a) ∷ (1, whole b) ∷ [])) (width-summed W64 0 ((1, whole a) ∷ (1, whole b) ∷ []))
 
-pub add_32 : OfRegisters operation.Add W32 code.Plus W32
+pub add_32 : OfRegisters operators.Add W32 code.Plus W32
 unfolding cut_32
 add_32 a b = back_add (tree_cmp (part W32 b) (part W32 a)) a b
 
-pub sub_64 : OfRegisters operation.Sub W64 code.Minus W64
+pub sub_64 : OfRegisters operators.Sub W64 code.Minus W64
 sub_64 a b = low_same W64 (summed W64 0 ((1, whole a) ∷ (minus_one W64, whole b) ∷ [])) (width-summed W64 0 ((1, whole a) ∷ (minus_one W64, whole b) ∷ []))
 
-pub sub_32 : OfRegisters operation.Sub W32 code.Minus W32
+pub sub_32 : OfRegisters operators.Sub W32 code.Minus W32
 unfolding cut_32
 sub_32 a b = back_sub (tree_cmp (part W32 b) (part W32 a)) a b
 
 -- ---- with a constant
 
-pub addi_64 : WithConstant operation.Add W64 code.Plus W64
+pub addi_64 : WithConstant operators.Add W64 code.Plus W64
 addi_64 a c = low_same W64 (summed W64 0 ((1, whole a) ∷ (1, constant W64 c) ∷ [])) (width-summed W64 0 ((1, whole a) ∷ (1, constant W64 c) ∷ []))
 
 back_addi : (a c : ℕ) → Back (summed W32 0 ((1, part W32 a) ∷ (1, constant W32 c) ∷ []))
 unfolding cut_32
 back_addi a c = back_atom (sum_of W32 0 (product_of W32 1 (low W32 c))) 1 a (omega arith)
 
-pub addi_32 : WithConstant operation.Add W32 code.Plus W32
+pub addi_32 : WithConstant operators.Add W32 code.Plus W32
 unfolding cut_32
 addi_32 a c = ap (λ t. low_bits W32 (extended_64 (summed W32 0 ((1, part W32 a) ∷ (1, t) ∷ [])))) (low_constant_32 c) ∙ back_addi a c
 
 -- ---- from 0
 
-pub sub_zero_64 : FromZero operation.Sub W64 code.Minus W64
+pub sub_zero_64 : FromZero operators.Sub W64 code.Minus W64
 sub_zero_64 b = low_same W64 (summed W64 0 ((1, constant W64 0) ∷ (minus_one W64, whole b) ∷ [])) (width-summed W64 0 ((1, constant W64 0) ∷ (minus_one W64, whole b) ∷ []))
 
-pub sub_zero_32 : FromZero operation.Sub W32 code.Minus W32
+pub sub_zero_32 : FromZero operators.Sub W32 code.Minus W32
 unfolding cut_32
 sub_zero_32 b = refl
 
 -- ---- with one operand
 
-pub neg_64 : FromConstant operation.Sub 0 W64 code.Neg W64
+pub neg_64 : FromConstant operators.Sub 0 W64 code.Neg W64
 neg_64 a = refl
 
-pub neg_32 : FromConstant operation.Sub 0 W32 code.Neg W32
+pub neg_32 : FromConstant operators.Sub 0 W32 code.Neg W32
 unfolding cut_32
 neg_32 a = refl

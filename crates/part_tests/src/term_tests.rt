@@ -1,5 +1,5 @@
 //! How large a normal form may be: 1,048,576 nodes.
-use bits64::Width;
+use bits64::{Opaque, Width};
 use plain_data::{Items, Memory};
 use rtx_tree::Name;
 use std::alloc::Global;
@@ -51,11 +51,11 @@ fn is_within(alloc: Global, t: &Term) -> bool {
 // The upper half of a product is not flattened: 1,048,575 nodes, and twice as many.
 #[test]
 fn doubled_upper_halves(rt: HostRuntime) {
-    let Ok(half) = doubled_often(rt.alloc(), Head::Mulhu, 19) else {
+    let Ok(half) = doubled_often(rt.alloc(), Head::Opaque(Opaque::Mulhu), 19) else {
         panic!(rt; "out of memory");
     };
     assert!(rt; is_within(rt.alloc(), &half));
-    let Ok(whole) = doubled(rt.alloc(), Head::Mulhu, half) else {
+    let Ok(whole) = doubled(rt.alloc(), Head::Opaque(Opaque::Mulhu), half) else {
         panic!(rt; "out of memory");
     };
     assert!(rt; is_too_large(rt.alloc(), &whole));

@@ -1,10 +1,20 @@
 -- The value of an expression: GCC Internals, chapter "RTL Representation", whose sections the
 -- comments name.
-use Rattle.std.specs.Prelude.{ℕ, ◌-◌, ◌^◌, ◌==◌, ℤ, Bool, not, bit_and, bit_or, bit_xor, if◌then◌else◌, List, [], ◌∷◌, Option, Some, None, option_map, option_and_then}
+use Rattle.std.specs.Prelude.{ℕ, ℤ, if◌then◌else◌, List, [], ◌∷◌, Option, Some, None, option_map, option_and_then}
 use Rattle.std.specs.Int.{cast_unsigned, w64}
 use Rattle.bits64.specs.declared.Width.{Width}
 use Rattle.bits64.specs.declared.Width.TheVariants.{W8, W16, W32, W64}
-use Rattle.bits64.specs.Words.{bits_of, low, sign_extended, zero_extended, sum_of, difference_of, product_of, quotient_signed, quotient_unsigned, remainder_signed, remainder_unsigned, shifted_left, shifted_right, shifted_arithmetic, less_signed, less_unsigned}
+use Rattle.bits64.specs.declared.operator.Operator.{Operator}
+use Rattle.bits64.specs.declared.operator.Operator.TheVariants as op
+use Rattle.bits64.specs.declared.operator.Opaque.TheVariants as opaque
+use Rattle.bits64.specs.declared.operator.Relation.{Relation}
+use Rattle.bits64.specs.declared.operator.Relation.TheVariants as relation
+use Rattle.bits64.specs.declared.operator.Taking.{Taking}
+use Rattle.bits64.specs.declared.operator.Taking.TheVariants.{Alone, Counted}
+use Rattle.bits64.specs.declared.operator.Asks.{Asks}
+use Rattle.bits64.specs.declared.operator.Asks.TheVariants.{Nothing}
+use Rattle.bits64.specs.Operators.{number, holds, truth, lacks, taking_of, asks_of}
+use Rattle.bits64.specs.Words.{low, sign_extended, zero_extended}
 use Rattle.rtx_tree.specs.declared.code.Code.{Code}
 use Rattle.rtx_tree.specs.declared.code.Code.TheVariants.{Plus, Minus, Mult, Div, Udiv, Mod, Umod, And, Ior, Xor, Neg, Not, Ashift, Ashiftrt, Lshiftrt, SignExtend, ZeroExtend, Truncate, Eq, Ne, Lt, Le, Gt, Ge, Ltu, Leu, Gtu, Geu}
 use Rattle.rtx_tree.specs.declared.code.Mode.{Mode}
@@ -31,59 +41,81 @@ width_of DI = Some W64
 
 -- ---- operations on numbers of a width
 
--- one operand ("RTL Expressions for Arithmetic": `neg`, `not`), which wrap
+-- the operator of a code, if it has one
+abbrev pub operator_of : Code → Option Operator
+-- "RTL Expressions for Arithmetic": sums, differences, products and negatives wrap; `mod` has the
+-- dividend's sign
+operator_of Plus = Some op.Add
+operator_of Minus = Some op.Sub
+operator_of Mult = Some op.Mul
+operator_of Div = Some (op.Opaque opaque.Div)
+operator_of Udiv = Some (op.Opaque opaque.Udiv)
+operator_of Mod = Some (op.Opaque opaque.Rem)
+operator_of Umod = Some (op.Opaque opaque.Urem)
+operator_of And = Some op.And
+operator_of Ior = Some op.Ior
+operator_of Xor = Some op.Xor
+operator_of Neg = Some op.Neg
+operator_of Not = Some op.Not
+-- `ashift` and its like: the count is taken modulo the width
+operator_of Ashift = Some op.Shl
+operator_of Lshiftrt = Some op.Shr
+operator_of Ashiftrt = Some op.Sar
+-- "Comparison Operations": 1 for true and 0 for false; `ltu` and its like are unsigned
+operator_of Eq = Some (op.Test relation.Eq)
+operator_of Ne = Some (op.Test relation.Ne)
+operator_of Lt = Some (op.Test relation.Lt)
+operator_of Le = Some (op.Test relation.Le)
+operator_of Gt = Some (op.Test relation.Gt)
+operator_of Ge = Some (op.Test relation.Ge)
+operator_of Ltu = Some (op.Test relation.Ltu)
+operator_of Leu = Some (op.Test relation.Leu)
+operator_of Gtu = Some (op.Test relation.Gtu)
+operator_of Geu = Some (op.Test relation.Geu)
+operator_of _ = None
+
+-- what takes such numbers and asks nothing
+abbrev pub asking_nothing : Asks → Operator → Option Operator
+asking_nothing Nothing o = Some o
+asking_nothing _ o = None
+
+abbrev pub if_alone : Taking → Operator → Option Operator
+if_alone Alone o = asking_nothing (asks_of o) o
+if_alone _ o = None
+
+abbrev pub if_counted : Taking → Operator → Option Operator
+if_counted Counted o = asking_nothing (asks_of o) o
+if_counted _ o = None
+
+-- an operator of one number, one with a count, and the relation of a comparison
+abbrev pub alone : Option Operator → Option Operator
+alone o = option_and_then (λ o. if_alone (taking_of o) o) o
+
+abbrev pub counting : Option Operator → Option Operator
+counting o = option_and_then (λ o. if_counted (taking_of o) o) o
+
+abbrev pub relation_in : Option Operator → Option Relation
+relation_in (Some (op.Test r)) = Some r
+relation_in _ = None
+
+-- one operand, which wraps
 abbrev pub unary : Code → Width → ℕ → Option ℕ
-unary Neg w a = Some (difference_of w 0 a)
-unary Not w a = Some (2 ^ bits_of w - 1 - low w a)
-unary _ w a = None
+unary code w a = option_map (λ o. number o w a 0) (alone (operator_of code))
 
--- a quotient or remainder, which by zero has no value
-abbrev pub by_nonzero : Width → ℕ → ℕ → Option ℕ
-by_nonzero w b value = if low w b == 0 then None else Some value
+-- two operands of the same mode; a quotient or remainder by zero has no value
+abbrev pub operated : Operator → Width → ℕ → ℕ → Option ℕ
+operated o w a b = if lacks (asks_of o) w b then None else Some (number o w a b)
 
--- 1 for true and 0 for false ("Comparison Operations")
-abbrev pub truth : Bool → Option ℕ
-truth holds = Some (if holds then 1 else 0)
-
--- two operands of the same mode ("RTL Expressions for Arithmetic"). Sums, differences and products
--- wrap; `mod` has the dividend's sign
 abbrev pub binary : Code → Width → ℕ → ℕ → Option ℕ
-binary Plus w a b = Some (sum_of w a b)
-binary Minus w a b = Some (difference_of w a b)
-binary Mult w a b = Some (product_of w a b)
-binary Div w a b = by_nonzero w b (quotient_signed w a b)
-binary Udiv w a b = by_nonzero w b (quotient_unsigned w a b)
-binary Mod w a b = by_nonzero w b (remainder_signed w a b)
-binary Umod w a b = by_nonzero w b (remainder_unsigned w a b)
-binary And w a b = Some (bit_and (low w a) (low w b))
-binary Ior w a b = Some (bit_or (low w a) (low w b))
-binary Xor w a b = Some (bit_xor (low w a) (low w b))
-binary _ w a b = None
+binary code w a b = option_and_then (λ o. operated o w a b) (operator_of code)
 
--- shifts ("RTL Expressions for Arithmetic": `ashift` and its like), whose count is taken modulo the
--- width
+-- a shift
 abbrev pub shifted : Code → Width → ℕ → ℕ → Option ℕ
-shifted Ashift w a b = Some (shifted_left w a b)
-shifted Lshiftrt w a b = Some (shifted_right w a b)
-shifted Ashiftrt w a b = Some (shifted_arithmetic w a b)
-shifted _ w a b = None
+shifted code w a b = option_map (λ o. number o w a b) (counting (operator_of code))
 
-abbrev pub equal : Width → ℕ → ℕ → Bool
-equal w a b = low w a == low w b
-
--- comparisons of two numbers of a width ("Comparison Operations": `ltu` and its like are unsigned)
+-- a comparison of two numbers of a width
 abbrev pub compared : Code → Width → ℕ → ℕ → Option ℕ
-compared Eq w a b = truth (equal w a b)
-compared Ne w a b = truth (not (equal w a b))
-compared Lt w a b = truth (less_signed w a b)
-compared Ge w a b = truth (not (less_signed w a b))
-compared Gt w a b = truth (less_signed w b a)
-compared Le w a b = truth (not (less_signed w b a))
-compared Ltu w a b = truth (less_unsigned w a b)
-compared Geu w a b = truth (not (less_unsigned w a b))
-compared Gtu w a b = truth (less_unsigned w b a)
-compared Leu w a b = truth (not (less_unsigned w b a))
-compared _ w a b = None
+compared code w a b = option_map (λ r. truth (holds r w a b)) (relation_in (operator_of code))
 
 -- from one width to another ("Conversions")
 abbrev pub converted : Code → Width → Width → ℕ → Option ℕ

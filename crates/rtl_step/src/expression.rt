@@ -1,13 +1,12 @@
 //! The value of an expression.
 ghost use Rattle.std.specs.Prelude.{◌≡◌, map, option_map, ◌↔◌, IsTrue, IfSome, ◌<◌, ◌^◌};
+ghost use Rattle.bits64.specs.Operators.{asks_of, taking_of};
 ghost use Rattle.rtx_tree.specs.Code.{class_of_code};
 ghost use Rattle.rtl_step.specs.Value as spec;
 ghost use Rattle.rtl_step.specs.machine.Parts as steps;
 
 use crate::regs::Regs;
-use bits64::{
-    Width, add, div, lt, ltu, mul, rem, sar, sext, shl, shr, sub, trunc, udiv, urem, zext,
-};
+use bits64::{Asks, Opaque, Operator, Relation, Taking, Width, lacks, sext, trunc, zext};
 use rtx_tree::{Class, Code, Memories, Mode, Rtx, Symbols};
 use run_memory::{load, symbol_address};
 
@@ -24,79 +23,108 @@ pub fn width_of(mode: Mode) -> Option<Width>
     }
 }
 
+/// The operator of a code, if it has one.
+pub fn operator_of(code: Code) -> Option<Operator>
+    ensures { result ≡ spec.operator_of code }
+{
+    match code {
+        Code::Plus => Some(Operator::Add),
+        Code::Minus => Some(Operator::Sub),
+        Code::Mult => Some(Operator::Mul),
+        Code::Div => Some(Operator::Opaque(Opaque::Div)),
+        Code::Udiv => Some(Operator::Opaque(Opaque::Udiv)),
+        Code::Mod => Some(Operator::Opaque(Opaque::Rem)),
+        Code::Umod => Some(Operator::Opaque(Opaque::Urem)),
+        Code::And => Some(Operator::And),
+        Code::Ior => Some(Operator::Ior),
+        Code::Xor => Some(Operator::Xor),
+        Code::Neg => Some(Operator::Neg),
+        Code::Not => Some(Operator::Not),
+        Code::Ashift => Some(Operator::Shl),
+        Code::Lshiftrt => Some(Operator::Shr),
+        Code::Ashiftrt => Some(Operator::Sar),
+        Code::Eq => Some(Operator::Test(Relation::Eq)),
+        Code::Ne => Some(Operator::Test(Relation::Ne)),
+        Code::Lt => Some(Operator::Test(Relation::Lt)),
+        Code::Le => Some(Operator::Test(Relation::Le)),
+        Code::Gt => Some(Operator::Test(Relation::Gt)),
+        Code::Ge => Some(Operator::Test(Relation::Ge)),
+        Code::Ltu => Some(Operator::Test(Relation::Ltu)),
+        Code::Leu => Some(Operator::Test(Relation::Leu)),
+        Code::Gtu => Some(Operator::Test(Relation::Gtu)),
+        Code::Geu => Some(Operator::Test(Relation::Geu)),
+        _ => None,
+    }
+}
+
+fn asking_nothing(operator: Operator) -> Option<Operator>
+    ensures { result ≡ spec.asking_nothing (asks_of operator) operator }
+{
+    match operator.asks() {
+        Asks::Nothing => Some(operator),
+        Asks::SecondNonzero => None,
+    }
+}
+
+/// An operator of one number that asks nothing.
+pub fn alone(operator: Operator) -> Option<Operator>
+    ensures { result ≡ spec.if_alone (taking_of operator) operator }
+{
+    match operator.taking() {
+        Taking::Alone => asking_nothing(operator),
+        Taking::Pair | Taking::Counted => None,
+    }
+}
+
+/// An operator of a number and a count that asks nothing.
+pub fn counting(operator: Operator) -> Option<Operator>
+    ensures { result ≡ spec.if_counted (taking_of operator) operator }
+{
+    match operator.taking() {
+        Taking::Counted => asking_nothing(operator),
+        Taking::Alone | Taking::Pair => None,
+    }
+}
+
+/// The relation of a comparison.
+pub fn relation_of(code: Code) -> Option<Relation>
+    ensures { result ≡ spec.relation_in (spec.operator_of code) }
+{
+    match operator_of(code) {
+        Some(Operator::Test(relation)) => Some(relation),
+        _ => None,
+    }
+}
+
 fn unary(code: Code, w: Width, a: u64) -> Option<u64>
     ensures { result ≡ spec.unary code w a }
 {
-    match code {
-        Code::Neg => Some(sub(0, a, w)),
-        Code::Not => Some(trunc(!a, w)),
-        _ => None,
-    }
-}
-
-fn truth(holds: bool) -> Option<u64>
-    ensures { result ≡ spec.truth holds }
-{
-    Some(u64::from(holds))
-}
-
-fn equal(a: u64, b: u64, w: Width) -> bool
-    ensures { result ≡ spec.equal w a b }
-{
-    trunc(a, w) == trunc(b, w)
-}
-
-fn compared(code: Code, w: Width, a: u64, b: u64) -> Option<u64>
-    ensures { result ≡ spec.compared code w a b }
-{
-    match code {
-        Code::Eq => truth(equal(a, b, w)),
-        Code::Ne => truth(!equal(a, b, w)),
-        Code::Lt => truth(lt(a, b, w)),
-        Code::Ge => truth(!lt(a, b, w)),
-        Code::Gt => truth(lt(b, a, w)),
-        Code::Le => truth(!lt(b, a, w)),
-        Code::Ltu => truth(ltu(a, b, w)),
-        Code::Geu => truth(!ltu(a, b, w)),
-        Code::Gtu => truth(ltu(b, a, w)),
-        Code::Leu => truth(!ltu(b, a, w)),
-        _ => None,
-    }
-}
-
-fn by_nonzero(w: Width, b: u64, value: u64) -> Option<u64>
-    ensures { result ≡ spec.by_nonzero w b value }
-{
-    if trunc(b, w) == 0 { None } else { Some(value) }
-}
-
-fn shifted(code: Code, w: Width, a: u64, b: u64) -> Option<u64>
-    ensures { result ≡ spec.shifted code w a b }
-{
-    match code {
-        Code::Ashift => Some(shl(a, b, w)),
-        Code::Lshiftrt => Some(shr(a, b, w)),
-        Code::Ashiftrt => Some(sar(a, b, w)),
-        _ => None,
-    }
+    let operator = alone(operator_of(code)?)?;
+    Some(operator.number(w, a, 0))
 }
 
 fn binary(code: Code, w: Width, a: u64, b: u64) -> Option<u64>
     ensures { result ≡ spec.binary code w a b }
 {
-    match code {
-        Code::Plus => Some(add(a, b, w)),
-        Code::Minus => Some(sub(a, b, w)),
-        Code::Mult => Some(mul(a, b, w)),
-        Code::Div => by_nonzero(w, b, div(a, b, w)),
-        Code::Udiv => by_nonzero(w, b, udiv(a, b, w)),
-        Code::Mod => by_nonzero(w, b, rem(a, b, w)),
-        Code::Umod => by_nonzero(w, b, urem(a, b, w)),
-        Code::And => Some(trunc(a, w) & trunc(b, w)),
-        Code::Ior => Some(trunc(a, w) | trunc(b, w)),
-        Code::Xor => Some(trunc(a, w) ^ trunc(b, w)),
-        _ => None,
+    let operator = operator_of(code)?;
+    if lacks(operator.asks(), w, b) {
+        return None;
     }
+    Some(operator.number(w, a, b))
+}
+
+fn shifted(code: Code, w: Width, a: u64, b: u64) -> Option<u64>
+    ensures { result ≡ spec.shifted code w a b }
+{
+    let operator = counting(operator_of(code)?)?;
+    Some(operator.number(w, a, b))
+}
+
+fn compared(code: Code, w: Width, a: u64, b: u64) -> Option<u64>
+    ensures { result ≡ spec.compared code w a b }
+{
+    let relation = relation_of(code)?;
+    Some(u64::from(relation.holds(w, a, b)))
 }
 
 fn converted(code: Code, from: Width, to: Width, a: u64) -> Option<u64>

@@ -16,6 +16,6 @@ mod step;
 
 pub use call::{ArgValue, ArgValues, CallEvent, Calls, call_part, target_of};
 pub use effect::{address_of, register_of};
-pub use expression::{value, width_of};
+pub use expression::{alone, counting, operator_of, relation_of, value, width_of};
 pub use regs::{Known, Regs};
 pub use step::{State, StepEnd, result_of, step_insn};

@@ -3,9 +3,11 @@
 -- Here a register may also be unset: what a caller or a called function leaves in it is not known.
 -- A line that reads such a register is stuck, and so is one whose access to memory has no value,
 -- and one that names a symbol without an address.
-use Rattle.std.specs.Prelude.{ℕ, ◌%◌, ◌==◌, Bool, true, false, not, if◌then◌else◌, List, Option, Some, None, option_map, option_and_then, slice_get, slice_set, bit_and, bit_or, bit_xor}
+use Rattle.std.specs.Prelude.{ℕ, ◌%◌, ◌==◌, Bool, true, false, if◌then◌else◌, List, Option, Some, None, option_map, option_and_then, slice_get, slice_set}
 use Rattle.std.specs.Int.{cast_unsigned, w64}
-use Rattle.bits64.specs.Words.{low, sign_extended, zero_extended, sum_of, difference_of, product_of, high_signed, high_unsigned, high_mixed, quotient_signed, quotient_unsigned, remainder_signed, remainder_unsigned, shifted_left, shifted_right, shifted_arithmetic, less_signed, less_unsigned}
+use Rattle.bits64.specs.Words.{sign_extended, zero_extended, sum_of}
+use Rattle.bits64.specs.Operators.{number, holds}
+use Rattle.bits64.specs.declared.operator.Operator.{Operator}
 use Rattle.bits64.specs.declared.Width.{Width}
 use Rattle.bits64.specs.declared.Width.TheVariants.{W64}
 use Rattle.rtx_tree.specs.declared.machine.World.{World}
@@ -16,12 +18,8 @@ use Rattle.rv_text.specs.Lines.{action_of}
 use Rattle.rv_text.specs.declared.line.Line.{Line}
 use Rattle.rv_text.specs.declared.action.Action.{Action}
 use Rattle.rv_text.specs.declared.action.Action.TheVariants.{Compute, Load, Store, SymbolAddress, Branch, Jump, Call, CallRegister, Return}
-use Rattle.rv_text.specs.declared.action.Operation.{Operation}
-use Rattle.rv_text.specs.declared.action.Operation.TheVariants.{Add, Sub, And, Or, Xor, Sll, Srl, Sra, Slt, Sltu, Mul, Mulh, Mulhsu, Mulhu, Div, Divu, Rem, Remu}
 use Rattle.rv_text.specs.declared.action.Source.{Source}
 use Rattle.rv_text.specs.declared.action.Source.TheVariants.{First, Second, ReturnAddress, Immediate, Constant}
-use Rattle.rv_text.specs.declared.action.Comparison.{Comparison}
-use Rattle.rv_text.specs.declared.action.Comparison.TheVariants.{Equal, NotEqual, Less, NotLess, LessUnsigned, NotLessUnsigned}
 use Rattle.rv_text.specs.declared.action.Extension.{Extension}
 use Rattle.rv_text.specs.declared.action.Extension.TheVariants.{Sign, Zero}
 use Rattle.rv_line.specs.declared.state.RvState.{RvState}
@@ -51,41 +49,12 @@ source_value state line (Constant number) = Some (cast_unsigned w64 number)
 abbrev pub of_both : {X : Type 0} → (ℕ → ℕ → X) → Option ℕ → Option ℕ → Option X
 of_both f left right = option_and_then (λ a. option_map (f a) right) left
 
--- ---- operations ("Integer Register-Register Operations", "Integer Register-Immediate Instructions"; "Multiplication Operations", "Division
+-- ---- operators ("Integer Register-Register Operations", "Integer Register-Immediate Instructions"; "Multiplication Operations", "Division
 -- Operations")
 
-abbrev pub result_of : Operation → Width → ℕ → ℕ → ℕ
-result_of Add w a b = sum_of w a b
-result_of Sub w a b = difference_of w a b
-result_of And w a b = low w (bit_and a b)
-result_of Or w a b = low w (bit_or a b)
-result_of Xor w a b = low w (bit_xor a b)
-result_of Sll w a b = shifted_left w a b
-result_of Srl w a b = shifted_right w a b
-result_of Sra w a b = shifted_arithmetic w a b
-result_of Slt w a b = if less_signed w a b then 1 else 0
-result_of Sltu w a b = if less_unsigned w a b then 1 else 0
-result_of Mul w a b = product_of w a b
-result_of Mulh w a b = high_signed w a b
-result_of Mulhsu w a b = high_mixed w a b
-result_of Mulhu w a b = high_unsigned w a b
-result_of Div w a b = quotient_signed w a b
-result_of Divu w a b = quotient_unsigned w a b
-result_of Rem w a b = remainder_signed w a b
-result_of Remu w a b = remainder_unsigned w a b
-
 -- what is written: the instructions on 32 bits sign-extend their result to 64
-abbrev pub computed : Operation → Width → ℕ → ℕ → ℕ
-computed operation w a b = sign_extended w (result_of operation w a b)
-
--- "Conditional Branches"
-abbrev pub compares : Comparison → ℕ → ℕ → Bool
-compares Equal a b = a == b
-compares NotEqual a b = not (a == b)
-compares Less a b = less_signed W64 a b
-compares NotLess a b = not (less_signed W64 a b)
-compares LessUnsigned a b = less_unsigned W64 a b
-compares NotLessUnsigned a b = not (less_unsigned W64 a b)
+abbrev pub computed : Operator → Width → ℕ → ℕ → ℕ
+computed o w a b = sign_extended w (number o w a b)
 
 -- ---- memory ("Load and Store Instructions") and symbols
 
@@ -143,11 +112,12 @@ return_end entry_ra None = ends.Stuck
 return_end entry_ra (Some target) = if target == entry_ra then ends.Returned else ends.Stuck
 
 abbrev pub act : Action → World → Line → RvState → LineEnd × RvState
-act (Compute operation w left right) world line state = set_rd state line (of_both (computed operation w) (source_value state line left) (source_value state line right))
+act (Compute o w left right) world line state = set_rd state line (of_both (computed o w) (source_value state line left) (source_value state line right))
 act (Load w extension) world line state = set_rd state line (loaded w extension state line)
 act (Store w) world line state = set_memory state (stored w state line)
 act SymbolAddress world line state = set_rd state line (symbol_address world.symbols line.target)
-act (Branch comparison left right) world line state = (branch_end (of_both (compares comparison) (source_value state line left) (source_value state line right)), state)
+-- "Conditional Branches": two registers are compared
+act (Branch r left right) world line state = (branch_end (of_both (holds r W64) (source_value state line left) (source_value state line right)), state)
 act Jump world line state = (ends.Jumped, state)
 act Call world line state = (call_end (symbol_address world.symbols line.target), state)
 act CallRegister world line state = (register_call_end (register state.regs line.rs), state)

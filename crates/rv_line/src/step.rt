@@ -1,94 +1,53 @@
 //! One line.
 ghost use Rattle.std.specs.Prelude.{◌≡◌, Some, option_map};
+ghost use Rattle.bits64.specs.declared.Width.TheVariants.{W64};
+ghost use Rattle.bits64.specs.Operators as operators;
 ghost use Rattle.rv_line.specs.Step as spec;
 
 use crate::state::{LineEnd, RvState};
-use bits64::{
-    Width, add, div, lt, ltu, mul, mulh, mulhsu, mulhu, rem, sar, sext, shl, shr, sub, trunc, udiv,
-    urem, zext,
-};
+use bits64::{Operator, Relation, Width, add, sext, zext};
 use rtx_tree::World;
 use run_memory::{load, store, symbol_address};
-use rv_text::{Action, Comparison, Extension, Line, Operation, Source};
+use rv_text::{Action, Extension, Line, Source};
 
-/// The result of an operation.
-fn result_of(operation: Operation, w: Width, a: u64, b: u64) -> u64
-    ensures { result ≡ spec.result_of operation w a b }
+/// What an operator of a width writes.
+fn computed(operator: Operator, w: Width, a: u64, b: u64) -> u64
+    ensures { result ≡ spec.computed operator w a b }
 {
-    match operation {
-        Operation::Add => add(a, b, w),
-        Operation::Sub => sub(a, b, w),
-        Operation::And => trunc(a & b, w),
-        Operation::Or => trunc(a | b, w),
-        Operation::Xor => trunc(a ^ b, w),
-        Operation::Sll => shl(a, b, w),
-        Operation::Srl => shr(a, b, w),
-        Operation::Sra => sar(a, b, w),
-        Operation::Slt => u64::from(lt(a, b, w)),
-        Operation::Sltu => u64::from(ltu(a, b, w)),
-        Operation::Mul => mul(a, b, w),
-        Operation::Mulh => mulh(a, b, w),
-        Operation::Mulhsu => mulhsu(a, b, w),
-        Operation::Mulhu => mulhu(a, b, w),
-        Operation::Div => div(a, b, w),
-        Operation::Divu => udiv(a, b, w),
-        Operation::Rem => rem(a, b, w),
-        Operation::Remu => urem(a, b, w),
-    }
-}
-
-/// What an operation writes.
-fn computed(operation: Operation, w: Width, a: u64, b: u64) -> u64
-    ensures { result ≡ spec.computed operation w a b }
-{
-    sext(result_of(operation, w, a, b), w)
-}
-
-/// Whether a comparison holds.
-fn compares(comparison: Comparison, a: u64, b: u64) -> bool
-    ensures { result ≡ spec.compares comparison a b }
-{
-    match comparison {
-        Comparison::Equal => a == b,
-        Comparison::NotEqual => a != b,
-        Comparison::Less => lt(a, b, Width::W64),
-        Comparison::NotLess => !lt(a, b, Width::W64),
-        Comparison::LessUnsigned => ltu(a, b, Width::W64),
-        Comparison::NotLessUnsigned => !ltu(a, b, Width::W64),
-    }
+    sext(operator.number(w, a, b), w)
 }
 
 /// What a computing line writes.
 fn value_of(
     state: &RvState,
     line: &Line,
-    operation: Operation,
+    operator: Operator,
     w: Width,
     left: Source,
     right: Source,
 ) -> Option<u64>
-    ensures { result ≡ spec.of_both (spec.computed operation w)
+    ensures { result ≡ spec.of_both (spec.computed operator w)
         (spec.source_value state.now line.now left) (spec.source_value state.now line.now right) }
 {
     let a = state.source(line, left)?;
     let b = state.source(line, right)?;
-    Some(computed(operation, w, a, b))
+    Some(computed(operator, w, a, b))
 }
 
-/// Whether a branch's comparison holds.
+/// Whether a branch's relation holds.
 fn holds(
     state: &RvState,
     line: &Line,
-    comparison: Comparison,
+    relation: Relation,
     left: Source,
     right: Source,
 ) -> Option<bool>
-    ensures { result ≡ spec.of_both (spec.compares comparison)
+    ensures { result ≡ spec.of_both (operators.holds relation W64)
         (spec.source_value state.now line.now left) (spec.source_value state.now line.now right) }
 {
     let a = state.source(line, left)?;
     let b = state.source(line, right)?;
-    Some(compares(comparison, a, b))
+    Some(relation.holds(Width::W64, a, b))
 }
 
 /// The address of a line's access.
@@ -188,12 +147,12 @@ fn act(action: Action, line: &Line, state: &mut RvState, world: &World) -> LineE
 {
     match action {
         Action::Compute {
-            operation,
+            operator,
             width,
             left,
             right,
         } => {
-            let value = value_of(state, line, operation, width, left, right);
+            let value = value_of(state, line, operator, width, left, right);
             set_rd(state, line, value)
         }
         Action::Load { width, extension } => {
@@ -207,10 +166,10 @@ fn act(action: Action, line: &Line, state: &mut RvState, world: &World) -> LineE
             symbol_address(&world.symbols, line.target.bytes()),
         ),
         Action::Branch {
-            comparison,
+            relation,
             left,
             right,
-        } => branch_end(holds(state, line, comparison, left, right)),
+        } => branch_end(holds(state, line, relation, left, right)),
         Action::Jump => LineEnd::Jumped,
         Action::Call => call_end(symbol_address(&world.symbols, line.target.bytes())),
         Action::CallRegister => register_call_end(state.register(line.rs)),

@@ -1,46 +1,5 @@
 //! What a line does, whatever its registers and numbers are.
-use bits64::Width;
-
-/// An operation of the integer instructions on two numbers, named as the instruction that makes it.
-#[derive(Clone, Copy, Debug)]
-pub enum Operation {
-    /// The sum.
-    Add,
-    /// The difference.
-    Sub,
-    /// The bits that both have.
-    And,
-    /// The bits that one of them has.
-    Or,
-    /// The bits that only one of them has.
-    Xor,
-    /// The first shifted left by the second.
-    Sll,
-    /// The first shifted right by the second, with zeros above.
-    Srl,
-    /// The first shifted right by the second, with its sign above.
-    Sra,
-    /// 1 where the first is less, as signed numbers, else 0.
-    Slt,
-    /// 1 where the first is less, as unsigned numbers, else 0.
-    Sltu,
-    /// The lower half of the product.
-    Mul,
-    /// The upper half of the product of signed numbers.
-    Mulh,
-    /// The upper half of the product of a signed and an unsigned number.
-    Mulhsu,
-    /// The upper half of the product of unsigned numbers.
-    Mulhu,
-    /// The quotient of signed numbers.
-    Div,
-    /// The quotient of unsigned numbers.
-    Divu,
-    /// The remainder of signed numbers.
-    Rem,
-    /// The remainder of unsigned numbers.
-    Remu,
-}
+use bits64::{Operator, Relation, Width};
 
 /// Where a number comes from.
 #[derive(Clone, Copy, Debug)]
@@ -60,23 +19,6 @@ pub enum Source {
     },
 }
 
-/// How two numbers are compared by a branch.
-#[derive(Clone, Copy, Debug)]
-pub enum Comparison {
-    /// The numbers are equal.
-    Equal,
-    /// The numbers differ.
-    NotEqual,
-    /// The first is less, as signed numbers.
-    Less,
-    /// The first isn't less, as signed numbers.
-    NotLess,
-    /// The first is less, as unsigned numbers.
-    LessUnsigned,
-    /// The first isn't less, as unsigned numbers.
-    NotLessUnsigned,
-}
-
 /// What stands above a number of less than 64 bits that is loaded.
 #[derive(Clone, Copy, Debug)]
 pub enum Extension {
@@ -89,15 +31,15 @@ pub enum Extension {
 /// What a line does.
 #[derive(Clone, Copy, Debug)]
 pub enum Action {
-    /// `rd` becomes an operation's result, which is extended by its sign from the width.
+    /// `rd` becomes an operator's number, which is extended by its sign from the width.
     Compute {
-        /// The operation.
-        operation: Operation,
+        /// The operator.
+        operator: Operator,
         /// How many bits it works on.
         width: Width,
-        /// The operation's first number.
+        /// The operator's first number.
         left: Source,
-        /// The operation's second number.
+        /// The operator's second number.
         right: Source,
     },
     /// `rd` becomes what stands in memory at `rs` plus the line's number.
@@ -114,13 +56,14 @@ pub enum Action {
     },
     /// `rd` becomes the address of the line's symbol.
     SymbolAddress,
-    /// The next line is that behind the line's label, where the comparison holds.
+    /// The next line is that behind the line's label, where a relation holds of two numbers of 64
+    /// bits.
     Branch {
-        /// The comparison.
-        comparison: Comparison,
-        /// The comparison's first number.
+        /// The relation.
+        relation: Relation,
+        /// The first number.
         left: Source,
-        /// The comparison's second number.
+        /// The second number.
         right: Source,
     },
     /// The next line is that behind the line's label.

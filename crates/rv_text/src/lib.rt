@@ -17,7 +17,7 @@ mod parse;
 mod print;
 mod table;
 
-pub use action::{Action, Comparison, Extension, Operation, Source};
+pub use action::{Action, Extension, Source};
 pub use line::{CodeItem, Line, LineParts};
 pub use mnemonic::{MNEMONICS, Mnemonic};
 pub use operand::Operand;

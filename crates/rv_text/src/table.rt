@@ -6,18 +6,16 @@ ghost use Rattle.rv_text.specs.Table.{row_view};
 use crate::action::Action::{
     Branch, Call, CallRegister, Compute, Jump, Load, Return, Store, SymbolAddress,
 };
-use crate::action::Comparison::{Equal, Less, LessUnsigned, NotEqual, NotLess, NotLessUnsigned};
 use crate::action::Extension::{Sign, Zero};
-use crate::action::Operation::{
-    Add, And, Div, Divu, Mul, Mulh, Mulhsu, Mulhu, Or, Rem, Remu, Sll, Slt, Sltu, Sra, Srl, Sub,
-    Xor,
-};
 use crate::action::Source::{Constant, First, Immediate, ReturnAddress, Second};
-use crate::action::{Action, Comparison, Extension, Operation, Source};
+use crate::action::{Action, Extension, Source};
 use crate::mnemonic::{MNEMONICS, Mnemonic};
 use crate::operand::Operand;
-use bits64::Width;
+use bits64::Opaque::{Div, Mulh, Mulhsu, Mulhu, Rem, Udiv, Urem};
+use bits64::Operator::{Add, And, Ior, Mul, Not, Opaque, Sar, Shl, Shr, Sub, Test, Xor};
+use bits64::Relation::{Eq, Ge, Geu, Lt, Ltu, Ne};
 use bits64::Width::{W8, W16, W32, W64};
+use bits64::{Operator, Relation, Width};
 
 /// A mnemonic with its operands and with what a line of it does.
 #[derive(Clone, Copy)]
@@ -92,8 +90,6 @@ const ZERO: Source = Constant { number: 0 };
 
 const ONE: Source = Constant { number: 1 };
 
-const MINUS_ONE: Source = Constant { number: -1 };
-
 const TWELVE: Source = Constant { number: 12 };
 
 macro_rules! row {
@@ -107,9 +103,9 @@ macro_rules! row {
 }
 
 macro_rules! compute {
-    ($operation:expr, $width:expr, $left:expr, $right:expr) => {
+    ($operator:expr, $width:expr, $left:expr, $right:expr) => {
         Compute {
-            operation: $operation,
+            operator: $operator,
             width: $width,
             left: $left,
             right: $right,
@@ -127,9 +123,9 @@ macro_rules! load {
 }
 
 macro_rules! branch {
-    ($comparison:expr, $left:expr, $right:expr) => {
+    ($relation:expr, $left:expr, $right:expr) => {
         Branch {
-            comparison: $comparison,
+            relation: $relation,
             left: $left,
             right: $right,
         }
@@ -142,50 +138,74 @@ static ROWS: [Row; 86] = [
     row!("add", RD_RS_RT, compute!(Add, W64, First, Second)),
     row!("sub", RD_RS_RT, compute!(Sub, W64, First, Second)),
     row!("and", RD_RS_RT, compute!(And, W64, First, Second)),
-    row!("or", RD_RS_RT, compute!(Or, W64, First, Second)),
+    row!("or", RD_RS_RT, compute!(Ior, W64, First, Second)),
     row!("xor", RD_RS_RT, compute!(Xor, W64, First, Second)),
-    row!("sll", RD_RS_RT, compute!(Sll, W64, First, Second)),
-    row!("srl", RD_RS_RT, compute!(Srl, W64, First, Second)),
-    row!("sra", RD_RS_RT, compute!(Sra, W64, First, Second)),
-    row!("slt", RD_RS_RT, compute!(Slt, W64, First, Second)),
-    row!("sltu", RD_RS_RT, compute!(Sltu, W64, First, Second)),
+    row!("sll", RD_RS_RT, compute!(Shl, W64, First, Second)),
+    row!("srl", RD_RS_RT, compute!(Shr, W64, First, Second)),
+    row!("sra", RD_RS_RT, compute!(Sar, W64, First, Second)),
+    row!("slt", RD_RS_RT, compute!(Test(Lt), W64, First, Second)),
+    row!("sltu", RD_RS_RT, compute!(Test(Ltu), W64, First, Second)),
     // RV64I "Integer Register-Register Operations": the same on 32 bits
     row!("addw", RD_RS_RT, compute!(Add, W32, First, Second)),
     row!("subw", RD_RS_RT, compute!(Sub, W32, First, Second)),
-    row!("sllw", RD_RS_RT, compute!(Sll, W32, First, Second)),
-    row!("srlw", RD_RS_RT, compute!(Srl, W32, First, Second)),
-    row!("sraw", RD_RS_RT, compute!(Sra, W32, First, Second)),
+    row!("sllw", RD_RS_RT, compute!(Shl, W32, First, Second)),
+    row!("srlw", RD_RS_RT, compute!(Shr, W32, First, Second)),
+    row!("sraw", RD_RS_RT, compute!(Sar, W32, First, Second)),
     // M "Multiplication Operations" and "Division Operations"
     row!("mul", RD_RS_RT, compute!(Mul, W64, First, Second)),
-    row!("mulh", RD_RS_RT, compute!(Mulh, W64, First, Second)),
-    row!("mulhsu", RD_RS_RT, compute!(Mulhsu, W64, First, Second)),
-    row!("mulhu", RD_RS_RT, compute!(Mulhu, W64, First, Second)),
-    row!("div", RD_RS_RT, compute!(Div, W64, First, Second)),
-    row!("divu", RD_RS_RT, compute!(Divu, W64, First, Second)),
-    row!("rem", RD_RS_RT, compute!(Rem, W64, First, Second)),
-    row!("remu", RD_RS_RT, compute!(Remu, W64, First, Second)),
+    row!("mulh", RD_RS_RT, compute!(Opaque(Mulh), W64, First, Second)),
+    row!(
+        "mulhsu",
+        RD_RS_RT,
+        compute!(Opaque(Mulhsu), W64, First, Second)
+    ),
+    row!(
+        "mulhu",
+        RD_RS_RT,
+        compute!(Opaque(Mulhu), W64, First, Second)
+    ),
+    row!("div", RD_RS_RT, compute!(Opaque(Div), W64, First, Second)),
+    row!("divu", RD_RS_RT, compute!(Opaque(Udiv), W64, First, Second)),
+    row!("rem", RD_RS_RT, compute!(Opaque(Rem), W64, First, Second)),
+    row!("remu", RD_RS_RT, compute!(Opaque(Urem), W64, First, Second)),
     row!("mulw", RD_RS_RT, compute!(Mul, W32, First, Second)),
-    row!("divw", RD_RS_RT, compute!(Div, W32, First, Second)),
-    row!("divuw", RD_RS_RT, compute!(Divu, W32, First, Second)),
-    row!("remw", RD_RS_RT, compute!(Rem, W32, First, Second)),
-    row!("remuw", RD_RS_RT, compute!(Remu, W32, First, Second)),
+    row!("divw", RD_RS_RT, compute!(Opaque(Div), W32, First, Second)),
+    row!(
+        "divuw",
+        RD_RS_RT,
+        compute!(Opaque(Udiv), W32, First, Second)
+    ),
+    row!("remw", RD_RS_RT, compute!(Opaque(Rem), W32, First, Second)),
+    row!(
+        "remuw",
+        RD_RS_RT,
+        compute!(Opaque(Urem), W32, First, Second)
+    ),
     // RV32I and RV64I "Integer Register-Immediate Instructions"
     row!("addi", RD_RS_SHORT, compute!(Add, W64, First, Immediate)),
     row!("andi", RD_RS_SHORT, compute!(And, W64, First, Immediate)),
-    row!("ori", RD_RS_SHORT, compute!(Or, W64, First, Immediate)),
+    row!("ori", RD_RS_SHORT, compute!(Ior, W64, First, Immediate)),
     row!("xori", RD_RS_SHORT, compute!(Xor, W64, First, Immediate)),
-    row!("slti", RD_RS_SHORT, compute!(Slt, W64, First, Immediate)),
-    row!("sltiu", RD_RS_SHORT, compute!(Sltu, W64, First, Immediate)),
+    row!(
+        "slti",
+        RD_RS_SHORT,
+        compute!(Test(Lt), W64, First, Immediate)
+    ),
+    row!(
+        "sltiu",
+        RD_RS_SHORT,
+        compute!(Test(Ltu), W64, First, Immediate)
+    ),
     row!("addiw", RD_RS_SHORT, compute!(Add, W32, First, Immediate)),
-    row!("slli", RD_RS_COUNT64, compute!(Sll, W64, First, Immediate)),
-    row!("srli", RD_RS_COUNT64, compute!(Srl, W64, First, Immediate)),
-    row!("srai", RD_RS_COUNT64, compute!(Sra, W64, First, Immediate)),
-    row!("slliw", RD_RS_COUNT32, compute!(Sll, W32, First, Immediate)),
-    row!("srliw", RD_RS_COUNT32, compute!(Srl, W32, First, Immediate)),
-    row!("sraiw", RD_RS_COUNT32, compute!(Sra, W32, First, Immediate)),
+    row!("slli", RD_RS_COUNT64, compute!(Shl, W64, First, Immediate)),
+    row!("srli", RD_RS_COUNT64, compute!(Shr, W64, First, Immediate)),
+    row!("srai", RD_RS_COUNT64, compute!(Sar, W64, First, Immediate)),
+    row!("slliw", RD_RS_COUNT32, compute!(Shl, W32, First, Immediate)),
+    row!("srliw", RD_RS_COUNT32, compute!(Shr, W32, First, Immediate)),
+    row!("sraiw", RD_RS_COUNT32, compute!(Sar, W32, First, Immediate)),
     // RV64I "Integer Register-Immediate Instructions": the 20-bit immediate, 12 zeros below it,
     // sign-extended from 32 bits
-    row!("lui", RD_UPPER, compute!(Sll, W32, Immediate, TWELVE)),
+    row!("lui", RD_UPPER, compute!(Shl, W32, Immediate, TWELVE)),
     // RV32I and RV64I "Load and Store Instructions"
     row!("lb", RD_MEMORY, load!(W8, Sign)),
     row!("lbu", RD_MEMORY, load!(W8, Zero)),
@@ -200,34 +220,34 @@ static ROWS: [Row; 86] = [
     row!("sd", RT_MEMORY, Store { width: W64 }),
     // RV32I "Conditional Branches", and the assembly manual's branches with their registers
     // exchanged
-    row!("beq", RS_RT_LABEL, branch!(Equal, First, Second)),
-    row!("bne", RS_RT_LABEL, branch!(NotEqual, First, Second)),
-    row!("blt", RS_RT_LABEL, branch!(Less, First, Second)),
-    row!("bge", RS_RT_LABEL, branch!(NotLess, First, Second)),
-    row!("bltu", RS_RT_LABEL, branch!(LessUnsigned, First, Second)),
-    row!("bgeu", RS_RT_LABEL, branch!(NotLessUnsigned, First, Second)),
-    row!("bgt", RS_RT_LABEL, branch!(Less, Second, First)),
-    row!("ble", RS_RT_LABEL, branch!(NotLess, Second, First)),
-    row!("bgtu", RS_RT_LABEL, branch!(LessUnsigned, Second, First)),
-    row!("bleu", RS_RT_LABEL, branch!(NotLessUnsigned, Second, First)),
-    row!("beqz", RS_LABEL, branch!(Equal, First, ZERO)),
-    row!("bnez", RS_LABEL, branch!(NotEqual, First, ZERO)),
-    row!("blez", RS_LABEL, branch!(NotLess, ZERO, First)),
-    row!("bgez", RS_LABEL, branch!(NotLess, First, ZERO)),
-    row!("bltz", RS_LABEL, branch!(Less, First, ZERO)),
-    row!("bgtz", RS_LABEL, branch!(Less, ZERO, First)),
+    row!("beq", RS_RT_LABEL, branch!(Eq, First, Second)),
+    row!("bne", RS_RT_LABEL, branch!(Ne, First, Second)),
+    row!("blt", RS_RT_LABEL, branch!(Lt, First, Second)),
+    row!("bge", RS_RT_LABEL, branch!(Ge, First, Second)),
+    row!("bltu", RS_RT_LABEL, branch!(Ltu, First, Second)),
+    row!("bgeu", RS_RT_LABEL, branch!(Geu, First, Second)),
+    row!("bgt", RS_RT_LABEL, branch!(Lt, Second, First)),
+    row!("ble", RS_RT_LABEL, branch!(Ge, Second, First)),
+    row!("bgtu", RS_RT_LABEL, branch!(Ltu, Second, First)),
+    row!("bleu", RS_RT_LABEL, branch!(Geu, Second, First)),
+    row!("beqz", RS_LABEL, branch!(Eq, First, ZERO)),
+    row!("bnez", RS_LABEL, branch!(Ne, First, ZERO)),
+    row!("blez", RS_LABEL, branch!(Ge, ZERO, First)),
+    row!("bgez", RS_LABEL, branch!(Ge, First, ZERO)),
+    row!("bltz", RS_LABEL, branch!(Lt, First, ZERO)),
+    row!("bgtz", RS_LABEL, branch!(Lt, ZERO, First)),
     // pseudo-instructions of the assembly manual that set a register
     row!("li", RD_LONG, compute!(Add, W64, Immediate, ZERO)),
     row!("la", RD_SYMBOL, SymbolAddress),
     row!("mv", RD_RS, compute!(Add, W64, First, ZERO)),
-    row!("not", RD_RS, compute!(Xor, W64, First, MINUS_ONE)),
+    row!("not", RD_RS, compute!(Not, W64, First, ZERO)),
     row!("neg", RD_RS, compute!(Sub, W64, ZERO, First)),
     row!("negw", RD_RS, compute!(Sub, W32, ZERO, First)),
     row!("sext.w", RD_RS, compute!(Add, W32, First, ZERO)),
-    row!("seqz", RD_RS, compute!(Sltu, W64, First, ONE)),
-    row!("snez", RD_RS, compute!(Sltu, W64, ZERO, First)),
-    row!("sltz", RD_RS, compute!(Slt, W64, First, ZERO)),
-    row!("sgtz", RD_RS, compute!(Slt, W64, ZERO, First)),
+    row!("seqz", RD_RS, compute!(Test(Ltu), W64, First, ONE)),
+    row!("snez", RD_RS, compute!(Test(Ltu), W64, ZERO, First)),
+    row!("sltz", RD_RS, compute!(Test(Lt), W64, First, ZERO)),
+    row!("sgtz", RD_RS, compute!(Test(Lt), W64, ZERO, First)),
     // RV32I "Unconditional Jumps", and pseudo-instructions made of them
     row!("j", LABEL, Jump),
     row!("call", LABEL, Call),

@@ -1,16 +1,21 @@
 -- A line that has one word does what its word does.
-use Rattle.std.proofs.Common.{◌≡◌, ℕ, ◌+◌, ◌%◌, ◌^◌, ◌<◌, Bool, true, false, [], Option, Some, None, option_map, refl, sym, ◌∙◌, ap, arith}
+use Rattle.std.proofs.Common.{◌≡◌, ℕ, ◌+◌, ◌-◌, ◌%◌, ◌^◌, ◌<◌, Bool, true, false, [], Option, Some, None, option_map, refl, sym, ◌∙◌, ap, arith}
 use Rattle.std.specs.Prelude.{not}
 use Rattle.std.proofs.Math.Nat.{mod-eq_of_lt}
+use Rattle.bits64.specs.declared.Width.TheVariants.{W64}
+use Rattle.bits64.specs.declared.operator.Operator.TheVariants.{Not, Xor}
+use Rattle.bits64.specs.declared.operator.Relation.{Relation}
+use Rattle.bits64.specs.declared.operator.Relation.TheVariants.{Eq, Ne, Lt, Ge, Ltu, Geu}
+use Rattle.bits64.specs.Operators.{holds}
+use Rattle.bits64.specs.Words.{sign_extended}
+use Rattle.bits64.proofs.Operators.{complement_is}
 use Rattle.rv_text.specs.Table.{row_of}
 use Rattle.rv_text.specs.Lines.{is_of_row, same_line, has_all, bare}
 use Rattle.rv_text.specs.declared.line.Line.{Line}
-use Rattle.rv_text.specs.declared.action.Comparison.{Comparison}
-use Rattle.rv_text.specs.declared.action.Comparison.TheVariants.{Equal, NotEqual, Less, NotLess, LessUnsigned, NotLessUnsigned}
 use Rattle.rv_text.specs.declared.mnemonic.Mnemonic.TheVariants as mnemonic
 use Rattle.rv_text.proofs.Printing.{same_line_is}
 use Rattle.rv_text.proofs.Numbers.{and_true}
-use Rattle.rv_line.specs.Step.{register, with_register, of_both, compares, branch_end, register_call_end, return_end}
+use Rattle.rv_line.specs.Step.{register, with_register, of_both, computed, set_rd, branch_end, register_call_end, return_end}
 use Rattle.rv_line.specs.declared.state.RvState.{RvState}
 use Rattle.rv_line.specs.declared.state.LineEnd.{LineEnd}
 use Rattle.rv_line.specs.declared.state.LineEnd.TheVariants.{Next}
@@ -29,6 +34,11 @@ nothing_set : (line : Line) → is_of_row (row_of mnemonic.Nop) line ≡ true �
 nothing_set line of_row =
     let same = same_line_is (bare line.name) line (and_true (has_all [] line) (same_line (bare line.name) line) of_row).1 in
     ap (λ (l : Line). l.rd) (sym same)
+
+-- the complement is the exclusive or with -1
+complement : (value : Option ℕ) → of_both (computed Xor W64) value (Some (2 ^ 64 - 1)) ≡ of_both (computed Not W64) value (Some 0)
+complement None = refl
+complement (Some a) = ap (λ n. Some (sign_extended W64 n)) (complement_is W64 a 0)
 
 pub one_word_does : OneWordDoes
 one_word_does world mnemonic.Add line state further of_row words = refl
@@ -103,7 +113,7 @@ one_word_does world mnemonic.Bgtz line state further of_row words = refl
 one_word_does world mnemonic.Li line state further of_row words = tt
 one_word_does world mnemonic.La line state further of_row words = tt
 one_word_does world mnemonic.Mv line state further of_row words = refl
-one_word_does world mnemonic.Not line state further of_row words = refl
+one_word_does world mnemonic.Not line state further of_row words = ap (set_rd state line) (complement (register state.regs line.rs))
 one_word_does world mnemonic.Neg line state further of_row words = refl
 one_word_does world mnemonic.Negw line state further of_row words = refl
 one_word_does world mnemonic.SextW line state further of_row words = refl
@@ -134,9 +144,9 @@ negated true = refl
 negated false = refl
 
 module _ (state : RvState) (left right : Option ℕ) where
-  to_other : (f g : Comparison) → ((a b : ℕ) → compares g a b ≡ not (compares f a b)) →
-      ◌≡◌ {A = LineEnd × RvState} (branch_end (of_both (compares g) left right), state) (turned (branch_end (of_both (compares f) left right)), state)
-  to_other f g is = ap (λ e. (e, state)) (branch_turned (compares f) (compares g) is left right)
+  to_other : (f g : Relation) → ((a b : ℕ) → holds g W64 a b ≡ not (holds f W64 a b)) →
+      ◌≡◌ {A = LineEnd × RvState} (branch_end (of_both (holds g W64) left right), state) (turned (branch_end (of_both (holds f W64) left right)), state)
+  to_other f g is = ap (λ e. (e, state)) (branch_turned (holds f W64) (holds g W64) is left right)
 
 pub opposite_does : OppositeDoes
 opposite_does world mnemonic.Add line state = tt
@@ -192,22 +202,22 @@ opposite_does world mnemonic.Sb line state = tt
 opposite_does world mnemonic.Sh line state = tt
 opposite_does world mnemonic.Sw line state = tt
 opposite_does world mnemonic.Sd line state = tt
-opposite_does world mnemonic.Beq line state = λ further. to_other state (register state.regs line.rs) (register state.regs line.rt) Equal NotEqual (λ a b. refl)
-opposite_does world mnemonic.Bne line state = λ further. to_other state (register state.regs line.rs) (register state.regs line.rt) NotEqual Equal (λ a b. negated (compares Equal a b))
-opposite_does world mnemonic.Blt line state = λ further. to_other state (register state.regs line.rs) (register state.regs line.rt) Less NotLess (λ a b. refl)
-opposite_does world mnemonic.Bge line state = λ further. to_other state (register state.regs line.rs) (register state.regs line.rt) NotLess Less (λ a b. negated (compares Less a b))
-opposite_does world mnemonic.Bltu line state = λ further. to_other state (register state.regs line.rs) (register state.regs line.rt) LessUnsigned NotLessUnsigned (λ a b. refl)
-opposite_does world mnemonic.Bgeu line state = λ further. to_other state (register state.regs line.rs) (register state.regs line.rt) NotLessUnsigned LessUnsigned (λ a b. negated (compares LessUnsigned a b))
-opposite_does world mnemonic.Bgt line state = λ further. to_other state (register state.regs line.rt) (register state.regs line.rs) Less NotLess (λ a b. refl)
-opposite_does world mnemonic.Ble line state = λ further. to_other state (register state.regs line.rt) (register state.regs line.rs) NotLess Less (λ a b. negated (compares Less a b))
-opposite_does world mnemonic.Bgtu line state = λ further. to_other state (register state.regs line.rt) (register state.regs line.rs) LessUnsigned NotLessUnsigned (λ a b. refl)
-opposite_does world mnemonic.Bleu line state = λ further. to_other state (register state.regs line.rt) (register state.regs line.rs) NotLessUnsigned LessUnsigned (λ a b. negated (compares LessUnsigned a b))
-opposite_does world mnemonic.Beqz line state = λ further. to_other state (register state.regs line.rs) (Some 0) Equal NotEqual (λ a b. refl)
-opposite_does world mnemonic.Bnez line state = λ further. to_other state (register state.regs line.rs) (Some 0) NotEqual Equal (λ a b. negated (compares Equal a b))
-opposite_does world mnemonic.Blez line state = λ further. to_other state (Some 0) (register state.regs line.rs) NotLess Less (λ a b. negated (compares Less a b))
-opposite_does world mnemonic.Bgez line state = λ further. to_other state (register state.regs line.rs) (Some 0) NotLess Less (λ a b. negated (compares Less a b))
-opposite_does world mnemonic.Bltz line state = λ further. to_other state (register state.regs line.rs) (Some 0) Less NotLess (λ a b. refl)
-opposite_does world mnemonic.Bgtz line state = λ further. to_other state (Some 0) (register state.regs line.rs) Less NotLess (λ a b. refl)
+opposite_does world mnemonic.Beq line state = λ further. to_other state (register state.regs line.rs) (register state.regs line.rt) Eq Ne (λ a b. refl)
+opposite_does world mnemonic.Bne line state = λ further. to_other state (register state.regs line.rs) (register state.regs line.rt) Ne Eq (λ a b. negated (holds Eq W64 a b))
+opposite_does world mnemonic.Blt line state = λ further. to_other state (register state.regs line.rs) (register state.regs line.rt) Lt Ge (λ a b. refl)
+opposite_does world mnemonic.Bge line state = λ further. to_other state (register state.regs line.rs) (register state.regs line.rt) Ge Lt (λ a b. negated (holds Lt W64 a b))
+opposite_does world mnemonic.Bltu line state = λ further. to_other state (register state.regs line.rs) (register state.regs line.rt) Ltu Geu (λ a b. refl)
+opposite_does world mnemonic.Bgeu line state = λ further. to_other state (register state.regs line.rs) (register state.regs line.rt) Geu Ltu (λ a b. negated (holds Ltu W64 a b))
+opposite_does world mnemonic.Bgt line state = λ further. to_other state (register state.regs line.rt) (register state.regs line.rs) Lt Ge (λ a b. refl)
+opposite_does world mnemonic.Ble line state = λ further. to_other state (register state.regs line.rt) (register state.regs line.rs) Ge Lt (λ a b. negated (holds Lt W64 a b))
+opposite_does world mnemonic.Bgtu line state = λ further. to_other state (register state.regs line.rt) (register state.regs line.rs) Ltu Geu (λ a b. refl)
+opposite_does world mnemonic.Bleu line state = λ further. to_other state (register state.regs line.rt) (register state.regs line.rs) Geu Ltu (λ a b. negated (holds Ltu W64 a b))
+opposite_does world mnemonic.Beqz line state = λ further. to_other state (register state.regs line.rs) (Some 0) Eq Ne (λ a b. refl)
+opposite_does world mnemonic.Bnez line state = λ further. to_other state (register state.regs line.rs) (Some 0) Ne Eq (λ a b. negated (holds Eq W64 a b))
+opposite_does world mnemonic.Blez line state = λ further. to_other state (Some 0) (register state.regs line.rs) Ge Lt (λ a b. negated (holds Lt W64 a b))
+opposite_does world mnemonic.Bgez line state = λ further. to_other state (register state.regs line.rs) (Some 0) Ge Lt (λ a b. negated (holds Lt W64 a b))
+opposite_does world mnemonic.Bltz line state = λ further. to_other state (register state.regs line.rs) (Some 0) Lt Ge (λ a b. refl)
+opposite_does world mnemonic.Bgtz line state = λ further. to_other state (Some 0) (register state.regs line.rs) Lt Ge (λ a b. refl)
 opposite_does world mnemonic.Li line state = tt
 opposite_does world mnemonic.La line state = tt
 opposite_does world mnemonic.Mv line state = tt

@@ -14,8 +14,8 @@ use Rattle.text_words.specs.Words.{fits_i64}
 use Rattle.rv_text.specs.Table.{row_of}
 use Rattle.rv_text.specs.Lines.{is_within, register_text, number_text, same_line, filled, bare, has_all}
 use Rattle.rv_text.specs.declared.line.Line.{Line}
-use Rattle.rv_text.specs.declared.action.Operation.{Operation}
-use Rattle.rv_text.specs.declared.action.Operation.TheVariants.{Add, Sll}
+use Rattle.bits64.specs.declared.operator.Operator.{Operator}
+use Rattle.bits64.specs.declared.operator.Operator.TheVariants.{Add, Shl}
 use Rattle.rv_text.specs.declared.mnemonic.Mnemonic.TheVariants as mnemonic
 use Rattle.rv_text.proofs.Numbers.{and_true}
 use Rattle.rv_text.proofs.Registers.{is_some_register}
@@ -77,8 +77,8 @@ abbrev put : RvState → ℕ → ℕ → RvState
 put state rd value = record state { regs = with_register state.regs rd value }
 
 module _ (state : RvState) (rd : ℕ) (within : rd < length state.regs) where
-  -- an operation on the register that was written, and a number
-  again : (o : Operation) (w : Width) (line : Line) (value k : ℕ) → line.rd ≡ rd →
+  -- an operator on the register that was written, and a number
+  again : (o : Operator) (w : Width) (line : Line) (value k : ℕ) → line.rd ≡ rd →
       set_rd (put state rd value) line (of_both (computed o w) (register (with_register state.regs rd value) rd) (Some k)) ≡ (Next, put state rd (computed o w (held rd value) k))
   again o w line value k is =
       ap (λ v. set_rd (put state rd value) line (of_both (computed o w) v (Some k))) (reads state.regs rd value within)
@@ -119,10 +119,10 @@ sum64 a b = extended64 ((a + b) % 2 ^ 64) ∙ (omega arith)
 sum32 : (a b : ℕ) → computed Add W32 a b ≡ (a + b) / 2 ^ 31 % 2 * (2 ^ 32 - 1) * 2 ^ 32 + (a + b) % 2 ^ 32
 sum32 a b = extended32 ((a + b) % 2 ^ 32) ∙ (omega arith)
 
-shift64 : (a : ℕ) → computed Sll W64 a 12 ≡ (a * 4096) % 2 ^ 64
+shift64 : (a : ℕ) → computed Shl W64 a 12 ≡ (a * 4096) % 2 ^ 64
 shift64 a = extended64 ((a * 2 ^ (12 % 64)) % 2 ^ 64) ∙ (omega arith)
 
-shift32 : (a : ℕ) → a < 2 ^ 20 → computed Sll W32 a 12 ≡ a / 2 ^ 19 % 2 * (2 ^ 32 - 1) * 2 ^ 32 + a * 4096
+shift32 : (a : ℕ) → a < 2 ^ 20 → computed Shl W32 a 12 ≡ a / 2 ^ 19 % 2 * (2 ^ 32 - 1) * 2 ^ 32 + a * 4096
 shift32 a less = extended32 ((a * 2 ^ (12 % 32)) % 2 ^ 32) ∙ (omega arith)
 
 -- the lower part in 64 bits
@@ -180,7 +180,7 @@ wide_is (negsuc n) within = omega arith
 abbrev upper20 : ℕ → ℕ
 upper20 n = upper n % 2 ^ 20
 
-upper_value : (n : ℕ) → computed Sll W32 (upper20 n) 12 ≡ upper20 n / 2 ^ 19 % 2 * (2 ^ 32 - 1) * 2 ^ 32 + upper20 n * 4096
+upper_value : (n : ℕ) → computed Shl W32 (upper20 n) 12 ≡ upper20 n / 2 ^ 19 % 2 * (2 ^ 32 - 1) * 2 ^ 32 + upper20 n * 4096
 upper_value n = shift32 (upper20 n) (omega arith)
 
 exact32 : (n v : ℕ) → v ≡ upper20 n / 2 ^ 19 % 2 * (2 ^ 32 - 1) * 2 ^ 32 + upper20 n * 4096 → n % 4096 ≡ 0 → v ≡ wide n
@@ -199,7 +199,7 @@ bits52 m less = ap (λ z. cast_unsigned w64 z % 2 ^ 52) (signed_split (2 ^ 51) m
     by false e = let over : 2 ^ 51 ≤ m = grind (arith, nat_tests) in omega arith
 
 -- what is left after a cut, shifted back
-cut_back : (n m : ℕ) → m % 2 ^ 52 ≡ upper n % 2 ^ 52 → computed Sll W64 m 12 ≡ (upper n * 4096) % 2 ^ 64
+cut_back : (n m : ℕ) → m % 2 ^ 52 ≡ upper n % 2 ^ 52 → computed Shl W64 m 12 ≡ (upper n * 4096) % 2 ^ 64
 cut_back n m is = shift64 m ∙ (omega arith)
 
 abbrev rest : ℤ → ℕ
@@ -272,7 +272,7 @@ module _ (world : World) (state : RvState) (rd : ℕ) (within : rd < length stat
           let whole = cast_fits (2 ^ 31) c (omega arith) in32 in
           ap (λ x. (Next, put state rd x)) (sum64 0 (cast_unsigned w64 c) ∙ (omega arith))
       by false =
-          let v = computed Sll W32 (upper20 (cast_unsigned w64 c)) 12 in
+          let v = computed Shl W32 (upper20 (cast_unsigned w64 c)) 12 in
           added_does base.Addiw W32 (cast_unsigned w64 c) v (cast_unsigned w64 c) (λ s imm. refl)
           (λ none. exact32 (cast_unsigned w64 c) v (upper_value (cast_unsigned w64 c)) none ∙ wide_is c in32)
           (joined32 (cast_unsigned w64 c) v (upper_value (cast_unsigned w64 c)) ∙ wide_is c in32)
@@ -286,8 +286,8 @@ module _ (world : World) (state : RvState) (rd : ℕ) (within : rd < length stat
       let slli = base_of base.Slli rd rd 0 (pos 12) in
       append_next world (li_words cuts rd (shifted c)) (slli ∷ added base.Addi rd n) state (put state rd m) deeper
       ∙ (then_next world slli (added base.Addi rd n) (put state rd m) (put state rd v)
-      (again state rd within Sll W64 (line_of slli) m 12 refl
-      ∙ put_same (computed Sll W64 (held rd m) 12) v (λ r is. ap (λ q. computed Sll W64 (held q m) 12) is ∙ cut_back n m (bits52 (rest c) (omega arith))))
+      (again state rd within Shl W64 (line_of slli) m 12 refl
+      ∙ put_same (computed Shl W64 (held rd m) 12) v (λ r is. ap (λ q. computed Shl W64 (held q m) 12) is ∙ cut_back n m (bits52 (rest c) (omega arith))))
       ∙ added_does base.Addi W64 n v n (λ s imm. refl) (λ none. omega arith) (joined64 n v whole refl))
 
   abbrev bound : ℕ → ℕ
@@ -319,7 +319,7 @@ module _ (world : World) (state : RvState) (rd : ℕ) (within : rd < length stat
 -- ---- addresses
 
 module _ (address : ℕ) (low : address + 2048 < 2 ^ 31) where
-  upper_is : computed Sll W32 (upper address) 12 ≡ 4096 * upper address
+  upper_is : computed Shl W32 (upper address) 12 ≡ 4096 * upper address
   upper_is = shift32 (upper address) (omega arith) ∙ (omega arith)
 
   whole_is : (4096 * upper address + low_bits address) % 2 ^ 64 ≡ address

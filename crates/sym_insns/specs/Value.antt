@@ -1,31 +1,34 @@
 -- The value of an expression as a term, and what it needs: GCC Internals, chapter "RTL
 -- Representation", whose sections the comments name. It is the value of an expression over terms in
 -- place of numbers: each term is made, by the rules of the normal form, of terms in normal form.
-use Rattle.std.specs.Prelude.{ℕ, ◌==◌, ◌&&◌, not, ℤ, Bool, true, false, if◌then◌else◌, List, [], ◌∷◌, ◌++◌, length, Option, Some, None}
+use Rattle.std.specs.Prelude.{ℕ, ◌==◌, not, ℤ, Bool, true, false, if◌then◌else◌, List, [], ◌∷◌, ◌++◌, length, Option, Some, None}
 use Rattle.std.specs.Int.{cast_unsigned, w64}
 use Rattle.bits64.specs.declared.Width.{Width}
 use Rattle.bits64.specs.declared.Width.TheVariants.{W64}
+use Rattle.bits64.specs.declared.operator.Operator.{Operator}
+use Rattle.bits64.specs.declared.operator.Relation.{Relation}
+use Rattle.bits64.specs.declared.operator.Asks.{Asks}
+use Rattle.bits64.specs.declared.operator.Asks.TheVariants.{Nothing, SecondNonzero}
+use Rattle.bits64.specs.Operators.{asks_of}
 use Rattle.rtx_tree.specs.Code.{class_of_code}
 use Rattle.rtx_tree.specs.declared.code.Code.{Code}
-use Rattle.rtx_tree.specs.declared.code.Code.TheVariants.{Plus, Minus, Mult, Div, Udiv, Mod, Umod, And, Ior, Xor, Neg, Not, Ashift, Ashiftrt, Lshiftrt, SignExtend, ZeroExtend, Truncate, Eq, Ne, Lt, Le, Gt, Ge, Ltu, Leu, Gtu, Geu}
+use Rattle.rtx_tree.specs.declared.code.Code.TheVariants.{SignExtend, ZeroExtend, Truncate}
 use Rattle.rtx_tree.specs.declared.class.Class.{Class}
 use Rattle.rtx_tree.specs.declared.class.Class.TheVariants.{Register, Constant, Symbol, Memory, Lowpart, Unary, Binary, Shift, Extension, Truncation, Comparison}
 use Rattle.rtx_tree.specs.declared.tree.Rtx.{Rtx}
 use Rattle.rtx_tree.specs.declared.tree.Rtx.TheOpen.{Rtx-F}
 use Rattle.rtx_tree.specs.declared.tree.Rtx.TheFolds.{fold-Rtx}
-use Rattle.rtl_step.specs.Value.{width_of, first_width, count_width}
+use Rattle.rtl_step.specs.Value.{width_of, first_width, count_width, operator_of, alone, counting, relation_in}
 use Rattle.term_tree.specs.declared.head.Head.{Head}
 use Rattle.term_tree.specs.declared.head.Head.TheVariants as heads
-use Rattle.term_tree.specs.declared.head.Relation.{Relation}
-use Rattle.term_tree.specs.declared.head.Relation.TheVariants as relation
 use Rattle.term_tree.specs.Tree.{Tree}
 use Rattle.term_mean.specs.Stores.{Store}
-use Rattle.term_mean.specs.Sums.{constant, constant_in, summed}
+use Rattle.term_mean.specs.Sums.{constant, constant_in}
 use Rattle.term_mean.specs.Normal.{built}
-use Rattle.term_mean.specs.Compared.{compared, low_bits}
+use Rattle.term_mean.specs.Compared.{low_bits}
 use Rattle.sym_state.specs.State as state
 use Rattle.sym_state.specs.State.{Changed, Need, Lost, Access, Divisor, own_symbol}
-pub use Rattle.sym_state.specs.Makers.{minus_one, one, two, truth_in}
+use Rattle.sym_state.specs.Makers.{one, related, term_of}
 use Rattle.sym_state.specs.Registers.{read, read_needs}
 
 -- a term, and what it needs, in the order in which it is met
@@ -43,46 +46,7 @@ pub record Reading : Type 0 where
   pub width : Option Width
   pub made : Width → Made
 
--- ---- operations on terms of a width. Each has a case for each code of its class, and a last one
--- that no code of the class comes to
-
--- ("RTL Expressions for Arithmetic": `neg`, `not`) -a, and -1 - a
-abbrev pub unary : Code → Width → Tree → Tree
-unary Neg w a = summed w 0 ((minus_one w, a) ∷ [])
-unary Not w a = summed w (minus_one w) ((minus_one w, a) ∷ [])
-unary _ w a = a
-
--- the operator of a code with two operands, but for sums and differences
-abbrev pub head_of : Code → Option Head
-head_of Mult = Some heads.Mul
-head_of Div = Some heads.Div
-head_of Udiv = Some heads.Udiv
-head_of Mod = Some heads.Rem
-head_of Umod = Some heads.Urem
-head_of And = Some heads.And
-head_of Ior = Some heads.Ior
-head_of Xor = Some heads.Xor
-head_of Ashift = Some heads.Shl
-head_of Lshiftrt = Some heads.Shr
-head_of Ashiftrt = Some heads.Sar
-head_of _ = None
-
-abbrev pub with_head : List Store → Option Head → Width → Tree → Tree → Tree
-with_head stores None w a b = a
-with_head stores (Some h) w a b = two stores h w a b
-
--- ("RTL Expressions for Arithmetic") two operands of the same mode, and shifts
-abbrev pub binary : List Store → Code → Width → Tree → Tree → Tree
-binary stores Plus w a b = summed w 0 ((1, a) ∷ (1, b) ∷ [])
-binary stores Minus w a b = summed w 0 ((1, a) ∷ (minus_one w, b) ∷ [])
-binary stores code w a b = with_head stores (head_of code) w a b
-
-abbrev pub divides : Code → Bool
-divides Div = true
-divides Udiv = true
-divides Mod = true
-divides Umod = true
-divides _ = false
+-- ---- operations on terms of a width
 
 -- a constant other than 0
 abbrev pub is_nonzero : Option ℕ → Bool
@@ -90,35 +54,16 @@ is_nonzero None = false
 is_nonzero (Some c) = not (c == 0)
 
 -- a divisor has not to be 0; a constant that is not needs nothing
-abbrev pub divisor_needs : Code → Tree → List Need
-divisor_needs code b =
-    if divides code && not (is_nonzero (constant_in b)) then Divisor b ∷ [] else []
+abbrev pub divisor_needs : Asks → Tree → List Need
+divisor_needs Nothing b = []
+divisor_needs SecondNonzero b = if is_nonzero (constant_in b) then [] else Divisor b ∷ []
 
 -- ("Conversions")
-abbrev pub converted : List Store → Code → Width → Tree → Tree
-converted stores SignExtend w a = one stores heads.Sext w a
-converted stores ZeroExtend w a = one stores heads.Zext w a
-converted stores Truncate w a = one stores heads.Trunc w a
-converted stores _ w a = a
-
--- ("Comparison Operations")
-abbrev pub relation_of : Code → Option Relation
-relation_of Eq = Some relation.Eq
-relation_of Ne = Some relation.Ne
-relation_of Lt = Some relation.Lt
-relation_of Le = Some relation.Le
-relation_of Gt = Some relation.Gt
-relation_of Ge = Some relation.Ge
-relation_of Ltu = Some relation.Ltu
-relation_of Leu = Some relation.Leu
-relation_of Gtu = Some relation.Gtu
-relation_of Geu = Some relation.Geu
-relation_of _ = None
-
--- a comparison of operands of so many bits, in a width
-abbrev pub related : List Store → Option Relation → Width → Width → Tree → Tree → Tree
-related stores None own w a b = a
-related stores (Some r) own w a b = truth_in stores w (compared r own a b)
+abbrev pub conversion_of : Code → Option Head
+conversion_of SignExtend = Some heads.Sext
+conversion_of ZeroExtend = Some heads.Zext
+conversion_of Truncate = Some heads.Trunc
+conversion_of _ = None
 
 -- ---- terms with what they need
 
@@ -128,12 +73,33 @@ of_one f a = record { term = f a.term; needs = a.needs }
 abbrev pub of_two : (Tree → Tree → Tree) → Made → Made → Made
 of_two f a b = record { term = f a.term b.term; needs = a.needs ++ b.needs }
 
--- two operands, the second of which may be a divisor
-abbrev pub of_operands : List Store → Code → Width → Made → Made → Made
-of_operands stores code w a b = record {
-  term = binary stores code w a.term b.term;
-  needs = (a.needs ++ b.needs) ++ divisor_needs code b.term;
+-- ("RTL Expressions for Arithmetic") one operand
+abbrev pub of_operand : List Store → Option Operator → Width → Made → Made
+of_operand stores None w a = no_value w
+of_operand stores (Some o) w a = of_one (λ t. term_of stores o w t (constant w 0)) a
+
+-- two operands of the same mode, the second of which may be a divisor
+abbrev pub of_operands : List Store → Option Operator → Width → Made → Made → Made
+of_operands stores None w a b = no_value w
+of_operands stores (Some o) w a b = record {
+  term = term_of stores o w a.term b.term;
+  needs = (a.needs ++ b.needs) ++ divisor_needs (asks_of o) b.term;
 }
+
+-- an operand and a count
+abbrev pub of_shifted : List Store → Option Operator → Width → Made → Made → Made
+of_shifted stores None w a b = no_value w
+of_shifted stores (Some o) w a b = of_two (term_of stores o w) a b
+
+-- ("Conversions") an operand of another width
+abbrev pub of_conversion : List Store → Option Head → Width → Made → Made
+of_conversion stores None w a = no_value w
+of_conversion stores (Some h) w a = of_one (one stores h w) a
+
+-- ("Comparison Operations") two operands of so many bits
+abbrev pub of_related : List Store → Option Relation → Width → Width → Made → Made → Made
+of_related stores None own w a b = no_value w
+of_related stores (Some r) own w a b = of_two (related stores r own w) a b
 
 -- ---- expressions
 
@@ -166,14 +132,15 @@ made_of_none regs _ number name w = no_value w
 -- "Conversions": the operand is read in its own mode
 abbrev pub of_converted : List Store → Option Width → Code → Reading → Width → Made
 of_converted stores None code a w = no_value w
-of_converted stores (Some own) code a w = of_one (converted stores code w) (a.made own)
+of_converted stores (Some own) code a w =
+    of_conversion stores (conversion_of code) w (a.made own)
 
 -- an expression of one part
 abbrev pub made_of_one : List Store → Class → Code → Reading → Width → Made
 -- "Registers and Memory": an address has mode DI; a lowpart `subreg` reads the low bits alone
 made_of_one stores Memory code a w = loaded stores w (a.made W64)
 made_of_one stores Lowpart code a w = a.made w
-made_of_one stores Unary code a w = of_one (unary code w) (a.made w)
+made_of_one stores Unary code a w = of_operand stores (alone (operator_of code)) w (a.made w)
 made_of_one stores Extension code a w = of_converted stores a.width code a w
 made_of_one stores Truncation code a w = of_converted stores a.width code a w
 made_of_one stores _ code a w = no_value w
@@ -182,13 +149,14 @@ made_of_one stores _ code a w = no_value w
 abbrev pub of_compared : List Store → Option Width → Code → Reading → Reading → Width → Made
 of_compared stores None code a b w = no_value w
 of_compared stores (Some own) code a b w =
-    of_two (related stores (relation_of code) own w) (a.made own) (b.made own)
+    of_related stores (relation_in (operator_of code)) own w (a.made own) (b.made own)
 
 -- an expression of two parts
 abbrev pub made_of_two : List Store → Class → Code → Reading → Reading → Width → Made
-made_of_two stores Binary code a b w = of_operands stores code w (a.made w) (b.made w)
+made_of_two stores Binary code a b w =
+    of_operands stores (operator_of code) w (a.made w) (b.made w)
 made_of_two stores Shift code a b w =
-    of_two (binary stores code w) (a.made w) (b.made (count_width b.width))
+    of_shifted stores (counting (operator_of code)) w (a.made w) (b.made (count_width b.width))
 made_of_two stores Comparison code a b w =
     of_compared stores (first_width a.width b.width) code a b w
 made_of_two stores _ code a b w = no_value w

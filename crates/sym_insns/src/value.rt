@@ -1,10 +1,12 @@
 //! The value of an expression as a term.
-ghost use Rattle.std.specs.Prelude.{◌≡◌, ◌++◌, [], ◌∷◌, map, option_map, IfOk, OnOk};
+ghost use Rattle.std.specs.Prelude.{◌≡◌, ◌++◌, [], ◌∷◌, map, Some, option_map, IfOk, OnOk};
 ghost use Rattle.rtx_tree.specs.Code.{class_of_code};
 ghost use Rattle.rtx_tree.specs.declared.tree.Rtx.{out-Rtx};
 ghost use Rattle.rtl_step.specs.Value as step;
 ghost use Rattle.rtl_step.specs.Value.{first_width, count_width};
 ghost use Rattle.term_tree.specs.View.{tree_of};
+ghost use Rattle.bits64.specs.Operators.{asks_of};
+ghost use Rattle.sym_state.specs.Makers.{related, term_of};
 ghost use Rattle.sym_state.specs.State.{Access};
 ghost use Rattle.sym_state.specs.Views.{need_of};
 ghost use Rattle.sym_state.specs.machine.Places.{listed};
@@ -13,13 +15,15 @@ ghost use Rattle.sym_insns.specs.Value.{made_of};
 ghost use Rattle.sym_insns.specs.machine.Making.{IsMade, reading_by_mode, regs_of, stores_of};
 
 use crate::before::Before;
-use crate::operation::{Needs, Operation, binary, compared, converted, need_divisor, unary};
-use bits64::Width;
+use crate::operation::{
+    Comparison, Needs, Operation, binary, compared, conversion_of, need_divisor, unary,
+};
+use bits64::{Operator, Width};
 use plain_data::{Items, Memory};
-use rtl_step::width_of;
+use rtl_step::{alone, counting, operator_of, relation_of, width_of};
 use rtx_tree::{Class, Code, Mode, Name, Rtx};
 use std::alloc::Global;
-use sym_state::{NeedOf, own_symbol, read, read_need};
+use sym_state::{NeedOf, one, own_symbol, read, read_need};
 use sym_term::TermMaker;
 use term_sums::constant_term;
 use term_tree::{Head, Measured, Term};
@@ -142,13 +146,25 @@ fn of_converted(
         (reading_by_mode (regs_of before.now) (stores_of before.now) a.now).width code
         (reading_by_mode (regs_of before.now) (stores_of before.now) a.now) w)) }
 {
-    match width_of(a.mode) {
-        None => no_value(before.alloc, w, needs),
-        Some(own) => {
-            let term = make(maker, before, a, own, needs)?;
-            converted(maker, before, code, w, term)
-        }
-    }
+    let (Some(head), Some(own)) = (conversion_of(code), width_of(a.mode)) else {
+        return no_value(before.alloc, w, needs);
+    };
+    let term = make(maker, before, a, own, needs)?;
+    one(maker, before.alloc, before.stores, head, w, term)
+}
+
+/// The operator of a code of one number.
+fn alone_of(code: Code) -> Option<Operator>
+    ensures { result ≡ step.alone (step.operator_of code) }
+{
+    alone(operator_of(code)?)
+}
+
+/// The operator of a code of a number and a count.
+fn counting_of(code: Code) -> Option<Operator>
+    ensures { result ≡ step.counting (step.operator_of code) }
+{
+    counting(operator_of(code)?)
 }
 
 /// An expression of one part.
@@ -172,8 +188,11 @@ fn made_of_one(
         }
         Class::Lowpart => make(maker, before, a, w, needs),
         Class::Unary => {
+            let Some(operator) = alone_of(code) else {
+                return no_value(before.alloc, w, needs);
+            };
             let term = make(maker, before, a, w, needs)?;
-            unary(maker, before.alloc, code, w, term)
+            unary(maker, before, operator, w, term)
         }
         Class::Extension | Class::Truncation => { of_converted(maker, before, code, a, w, needs) }
         _ => no_value(before.alloc, w, needs),
@@ -210,12 +229,12 @@ fn of_operands(
 ) -> Result<Term, Memory>
     ensures { IfOk result (λ r. IsMade needs.old needs.new (tree_of r)
         (record {
-          term = spec.binary (stores_of before.now) operation.code operation.width (tree_of a)
+          term = term_of (stores_of before.now) operation.operator operation.width (tree_of a)
               (tree_of b);
-          needs = spec.divisor_needs operation.code (tree_of b);
+          needs = spec.divisor_needs (asks_of operation.operator) (tree_of b);
         })) }
 {
-    need_divisor(before.alloc, operation.code, &b, needs)?;
+    need_divisor(before.alloc, operation.operator.asks(), &b, needs)?;
     binary(maker, before, operation, a, b)
 }
 
@@ -230,7 +249,7 @@ fn binary_with(
     needs: &mut Needs,
 ) -> Result<Term, Memory>
     ensures { IfOk result (λ r. IsMade needs.old needs.new (tree_of r)
-        (spec.of_operands (stores_of before.now) operation.code operation.width
+        (spec.of_operands (stores_of before.now) (Some operation.operator) operation.width
         (record { term = tree_of first; needs = [] })
         (made_of (regs_of before.now) (stores_of before.now) b.now operation.operand))) }
 {
@@ -250,7 +269,7 @@ fn shift_with(
 ) -> Result<Term, Memory>
     ensures { IfOk result (λ r. IsMade needs.old needs.new (tree_of r)
         (spec.of_one
-        (spec.binary (stores_of before.now) operation.code operation.width (tree_of first))
+        (term_of (stores_of before.now) operation.operator operation.width (tree_of first))
         (made_of (regs_of before.now) (stores_of before.now) b.now operation.operand))) }
 {
     let count = make(maker, before, b, operation.operand, needs)?;
@@ -262,19 +281,19 @@ fn shift_with(
 fn compared_with(
     maker: &mut TermMaker,
     before: &Before,
-    operation: Operation,
+    comparison: Comparison,
     b: &Rtx,
     first: Term,
     needs: &mut Needs,
 ) -> Result<Term, Memory>
     ensures { IfOk result (λ r. IsMade needs.old needs.new (tree_of r)
         (spec.of_one
-        (spec.related (stores_of before.now) (spec.relation_of operation.code) operation.operand
-        operation.width (tree_of first))
-        (made_of (regs_of before.now) (stores_of before.now) b.now operation.operand))) }
+        (related (stores_of before.now) comparison.relation comparison.operand comparison.width
+        (tree_of first))
+        (made_of (regs_of before.now) (stores_of before.now) b.now comparison.operand))) }
 {
-    let second = make(maker, before, b, operation.operand, needs)?;
-    compared(maker, before, operation, first, second)
+    let second = make(maker, before, b, comparison.operand, needs)?;
+    compared(maker, before, comparison, first, second)
 }
 
 /// An expression of two parts; one of more has no value.
@@ -293,35 +312,44 @@ fn made_of_parts(
 {
     match parts {
         [a, b] => match code.class() {
-            Class::Binary => {
-                let first = make(maker, before, a, w, needs)?;
-                let operation = Operation {
-                    code,
-                    operand: w,
-                    width: w,
-                };
-                binary_with(maker, before, operation, b, first, needs)
-            }
-            Class::Shift => {
-                let first = make(maker, before, a, w, needs)?;
-                let operation = Operation {
-                    code,
-                    operand: count_width_of(b),
-                    width: w,
-                };
-                shift_with(maker, before, operation, b, first, needs)
-            }
-            Class::Comparison => match own_width(a, b) {
+            Class::Binary => match operator_of(code) {
                 None => no_value(before.alloc, w, needs),
-                Some(operand) => {
-                    let first = make(maker, before, a, operand, needs)?;
+                Some(operator) => {
+                    let first = make(maker, before, a, w, needs)?;
                     let operation = Operation {
-                        code,
-                        operand,
+                        operator,
+                        operand: w,
                         width: w,
                     };
-                    compared_with(maker, before, operation, b, first, needs)
+                    binary_with(maker, before, operation, b, first, needs)
                 }
+            },
+            Class::Shift => match counting_of(code) {
+                None => no_value(before.alloc, w, needs),
+                Some(operator) => {
+                    let first = make(maker, before, a, w, needs)?;
+                    let operation = Operation {
+                        operator,
+                        operand: count_width_of(b),
+                        width: w,
+                    };
+                    shift_with(maker, before, operation, b, first, needs)
+                }
+            },
+            Class::Comparison => match own_width(a, b) {
+                None => no_value(before.alloc, w, needs),
+                Some(operand) => match relation_of(code) {
+                    None => no_value(before.alloc, w, needs),
+                    Some(relation) => {
+                        let first = make(maker, before, a, operand, needs)?;
+                        let comparison = Comparison {
+                            relation,
+                            operand,
+                            width: w,
+                        };
+                        compared_with(maker, before, comparison, b, first, needs)
+                    }
+                },
             },
             _ => no_value(before.alloc, w, needs),
         },

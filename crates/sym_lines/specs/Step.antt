@@ -20,7 +20,7 @@ use Rattle.term_mean.specs.Normal.{built}
 use Rattle.term_mean.specs.Compared.{compared, low_bits}
 use Rattle.sym_state.specs.State.{Changed, Need, Access, Symbol, Arg, State, own_symbol, needs_at}
 use Rattle.sym_state.specs.Registers.{put, left_by_call, read, read_needs}
-use Rattle.sym_lines.specs.Compute.{computed, relation_of}
+use Rattle.sym_lines.specs.Compute.{computed}
 
 -- ---- what a line reads
 
@@ -95,16 +95,16 @@ calls index target needs s = record s {
 
 -- an action of a line at a place; the uid is that for which its label stands, if it stands for one
 abbrev pub act : Action → ℕ → Option ℕ → Line → State → State
-act (action.Compute operation w left right) index uid line s =
-    sets index line (computed operation right w (source s.regs line left) (source s.regs line right))
+act (action.Compute o w left right) index uid line s =
+    sets index line (computed o w (source s.regs line left) (source s.regs line right))
     (source_needs s.regs line left ++ source_needs s.regs line right) s
 act (action.Load w extension) index uid line s = let at = address s.regs line in
     sets index line (extended extension w (loaded s.stores w at)) (register_needs s.regs line.rs ++ Access at w ∷ []) s
 act (action.Store w) index uid line s = stores index w (address s.regs line) line s
 act action.SymbolAddress index uid line s =
     sets index line (own_symbol line.target) (Symbol line.target ∷ []) s
-act (action.Branch comparison left right) index uid line s =
-    jumps index uid (compared (relation_of comparison) W64 (source s.regs line left) (source s.regs line right))
+act (action.Branch r left right) index uid line s =
+    jumps index uid (compared r W64 (source s.regs line left) (source s.regs line right))
     (source_needs s.regs line left ++ source_needs s.regs line right) s
 act action.Jump index uid line s = jumps index uid (constant W8 1) [] s
 act action.Call index uid line s = calls index (own_symbol line.target) (Symbol line.target ∷ []) s

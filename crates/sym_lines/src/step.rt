@@ -11,15 +11,15 @@ ghost use Rattle.sym_lines.specs.Compute as operations;
 ghost use Rattle.sym_lines.specs.Step as spec;
 ghost use Rattle.sym_lines.specs.machine.Parts as parts;
 
-use crate::compute::{Computation, compared, computed, extended};
+use crate::compute::{Computation, computed, extended};
 use crate::source::{
     address, need_access, need_register, need_sources, need_store, need_symbol, register, source,
     stored,
 };
-use bits64::Width;
+use bits64::{Relation, Width};
 use plain_data::{Items, Memory};
 use rtx_tree::Name;
-use rv_text::{Action, Comparison, Extension, Line, Source};
+use rv_text::{Action, Extension, Line, Source};
 use std::alloc::Global;
 use sym_state::{
     SymArg, SymArgs, SymCall, SymJump, SymRegs, SymState, leave_by_call, own_symbol, put,
@@ -48,13 +48,18 @@ fn value_of(
     step: &Step,
     computation: Computation,
 ) -> Result<Term, Memory>
-    ensures { IfOk result (λ r. tree_of r ≡ operations.computed computation.operation computation.right computation.width
+    ensures { IfOk result (λ r. tree_of r ≡ operations.computed computation.operator computation.width
         (spec.source (map changed_of regs.now) step.now.line.now computation.left)
         (spec.source (map changed_of regs.now) step.now.line.now computation.right)) }
 {
     let a = source(maker, step.alloc, regs, step.line, computation.left)?;
     let b = source(maker, step.alloc, regs, step.line, computation.right)?;
-    computed(maker, step.alloc, computation, &a, &b)
+    let Computation {
+        operator,
+        width,
+        ..
+    } = computation;
+    computed(maker, step.alloc, operator, width, &a, &b)
 }
 
 /// Computes, and sets `rd`.
@@ -65,7 +70,7 @@ fn compute(
     computation: Computation,
 ) -> Result<(), Memory>
     ensures { OnOk result (state_of state.new
-        ≡ spec.act (actions.Compute computation.operation computation.width computation.left computation.right) step.now.index None
+        ≡ spec.act (actions.Compute computation.operator computation.width computation.left computation.right) step.now.index None
         step.now.line.now (state_of state.old)) }
 {
     let term = value_of(maker, &state.regs, step, computation)?;
@@ -177,34 +182,34 @@ fn condition(
     maker: &mut TermMaker,
     regs: &SymRegs,
     step: &Step,
-    comparison: Comparison,
+    relation: Relation,
     left: Source,
     right: Source,
 ) -> Result<Term, Memory>
     ensures { IfOk result (λ r. tree_of r
-        ≡ comparisons.compared (operations.relation_of comparison) W64
+        ≡ comparisons.compared relation W64
         (spec.source (map changed_of regs.now) step.now.line.now left)
         (spec.source (map changed_of regs.now) step.now.line.now right)) }
 {
     let a = source(maker, step.alloc, regs, step.line, left)?;
     let b = source(maker, step.alloc, regs, step.line, right)?;
-    compared(maker, comparison, a, b)
+    maker.compared(relation, Width::W64, a, b)
 }
 
-/// Jumps where the comparison holds.
+/// Jumps where the relation holds.
 fn branch(
     maker: &mut TermMaker,
     state: &mut SymState,
     step: &Step,
-    comparison: Comparison,
+    relation: Relation,
     left: Source,
     right: Source,
 ) -> Result<(), Memory>
     ensures { OnOk result (state_of state.new
-        ≡ spec.act (actions.Branch comparison left right) step.now.index step.now.uid
+        ≡ spec.act (actions.Branch relation left right) step.now.index step.now.uid
         step.now.line.now (state_of state.old)) }
 {
-    let condition = condition(maker, &state.regs, step, comparison, left, right)?;
+    let condition = condition(maker, &state.regs, step, relation, left, right)?;
     need_sources(
         &mut state.needs,
         step.index,
@@ -314,13 +319,13 @@ pub(crate) fn act(
 {
     match action {
         Action::Compute {
-            operation,
+            operator,
             width,
             left,
             right,
         } => {
             let computation = Computation {
-                operation,
+                operator,
                 width,
                 left,
                 right,
@@ -331,10 +336,10 @@ pub(crate) fn act(
         Action::Store { width } => store(maker, state, step, width),
         Action::SymbolAddress => set_symbol_address(state, step),
         Action::Branch {
-            comparison,
+            relation,
             left,
             right,
-        } => branch(maker, state, step, comparison, left, right),
+        } => branch(maker, state, step, relation, left, right),
         Action::Jump => {
             jump(state, step);
             Ok(())

@@ -1,11 +1,12 @@
 //! What is made of terms by one step of the rules: operators, sums, and truths in a width.
 ghost use Rattle.std.specs.Prelude.{◌≡◌, [], ◌∷◌, map, IfOk};
+ghost use Rattle.bits64.specs.Operators.{opaque_taking};
 ghost use Rattle.term_tree.specs.View.{tree_of};
 ghost use Rattle.sym_term.specs.term_mean.Sums as sums;
 ghost use Rattle.sym_term.specs.Views.{store_of};
 ghost use Rattle.sym_state.specs.Makers as spec;
 
-use bits64::Width;
+use bits64::{Opaque, Operator, Relation, Taking, Width};
 use plain_data::Memory;
 use rtx_tree::Name;
 use std::alloc::Global;
@@ -30,7 +31,7 @@ pub fn one(
 }
 
 /// An operator of two parts.
-pub fn two(
+fn two(
     maker: &mut TermMaker,
     alloc: Global,
     stores: &SymStores,
@@ -49,7 +50,7 @@ pub fn two(
 }
 
 /// A constant less a term.
-pub fn less_one(
+fn less_one(
     maker: &mut TermMaker,
     alloc: Global,
     w: Width,
@@ -68,7 +69,7 @@ pub fn less_one(
 }
 
 /// A term, and another with a coefficient.
-pub fn sum(
+fn sum(
     maker: &mut TermMaker,
     alloc: Global,
     w: Width,
@@ -92,7 +93,7 @@ pub fn sum(
 }
 
 /// A truth in a width.
-pub fn truth_in(
+fn truth_in(
     maker: &mut TermMaker,
     alloc: Global,
     stores: &SymStores,
@@ -105,5 +106,73 @@ pub fn truth_in(
         Ok(t)
     } else {
         one(maker, alloc, stores, Head::Zext, w, t)
+    }
+}
+
+/// The truth of a comparison of two terms of `own` bits, in a width.
+pub fn related(
+    maker: &mut TermMaker,
+    alloc: Global,
+    stores: &SymStores,
+    relation: Relation,
+    own: Width,
+    w: Width,
+    a: Term,
+    b: Term,
+) -> Result<Term, Memory>
+    ensures { IfOk result (λ r. tree_of r
+        ≡ spec.related (map store_of stores.now) relation own w (tree_of a) (tree_of b)) }
+{
+    let truth = maker.compared(relation, own, a, b)?;
+    truth_in(maker, alloc, stores, w, truth)
+}
+
+/// An operator of which nothing else is known, over one term or two.
+fn opaque_term(
+    maker: &mut TermMaker,
+    alloc: Global,
+    stores: &SymStores,
+    operator: Opaque,
+    w: Width,
+    a: Term,
+    b: Term,
+) -> Result<Term, Memory>
+    ensures { IfOk result (λ r. tree_of r ≡ spec.opaque_term (opaque_taking operator)
+        (map store_of stores.now) operator w (tree_of a) (tree_of b)) }
+{
+    let head = Head::Opaque(operator);
+    match operator.taking() {
+        Taking::Alone => one(maker, alloc, stores, head, w, a),
+        Taking::Pair | Taking::Counted => two(maker, alloc, stores, head, w, a, b),
+    }
+}
+
+/// What an operator makes of two terms; where it takes one number, the second counts for nothing.
+pub fn term_of(
+    maker: &mut TermMaker,
+    alloc: Global,
+    stores: &SymStores,
+    operator: Operator,
+    w: Width,
+    a: Term,
+    b: Term,
+) -> Result<Term, Memory>
+    ensures { IfOk result (λ r. tree_of r
+        ≡ spec.term_of (map store_of stores.now) operator w (tree_of a) (tree_of b)) }
+{
+    match operator {
+        Operator::Add => sum(maker, alloc, w, a, 1, b),
+        Operator::Sub => sum(maker, alloc, w, a, minus_one(w), b),
+        Operator::Neg => less_one(maker, alloc, w, 0, a),
+        Operator::Not => less_one(maker, alloc, w, minus_one(w), a),
+        Operator::Mul => two(maker, alloc, stores, Head::Mul, w, a, b),
+        Operator::And => two(maker, alloc, stores, Head::And, w, a, b),
+        Operator::Ior => two(maker, alloc, stores, Head::Ior, w, a, b),
+        Operator::Xor => two(maker, alloc, stores, Head::Xor, w, a, b),
+        Operator::Shl => two(maker, alloc, stores, Head::Shl, w, a, b),
+        Operator::Shr => two(maker, alloc, stores, Head::Shr, w, a, b),
+        Operator::Sar => two(maker, alloc, stores, Head::Sar, w, a, b),
+        Operator::Test(relation) => related(maker, alloc, stores, relation, w, w, a, b),
+        Operator::Opaque(operator) => opaque_term(maker, alloc, stores, operator, w, a, b),
     }
 }

@@ -11,6 +11,7 @@
 mod loads;
 mod maker;
 mod normal;
+mod opaque;
 mod shifts;
 mod stores;
 

@@ -8,7 +8,7 @@ ghost use Rattle.term_tree.specs.View.{tree_of, atom_of};
 ghost use Rattle.term_cuts.specs.term_mean.Meaning.{Valuation, mean, truth};
 ghost use Rattle.term_cuts.specs.term_mean.Stores.{Stored};
 ghost use Rattle.term_cuts.specs.term_mean.Sums.{summed as summed_spec};
-ghost use Rattle.term_cuts.specs.term_mean.Relations.{holds};
+ghost use Rattle.bits64.specs.Operators.{holds};
 ghost use Rattle.term_cuts.specs.term_mean.Compared.{same_in as same_in_spec, compared as compared_spec, low_bits as low_bits_spec};
 ghost use Rattle.term_cuts.specs.term_mean.Normal.{built as built_spec};
 ghost use Rattle.term_mean.proofs.SumLaws.{weight};
@@ -17,14 +17,14 @@ ghost use Rattle.sym_term.specs.machine.Kinds.{test_in, opposes, tested as teste
 
 use crate::normal::build;
 use crate::stores::SymStores;
-use bits64::Width;
+use bits64::{Relation, Width};
 use plain_data::Memory;
 use rtx_tree::Name;
 use std::alloc::Global;
 use std::cmp::Ordering;
 use term_cuts::cut_to;
 use term_sums::{minus_one, summed};
-use term_tree::{Atom, Extension, Head, Relation, Term, compare, is_same_width};
+use term_tree::{Atom, Extension, Head, Term, compare, is_same_width};
 use term_zero::{equals_zero, less_than, opposite};
 
 /// Whether `a - b` is 0.

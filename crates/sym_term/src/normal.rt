@@ -7,22 +7,22 @@ ghost use Rattle.term_tree.specs.View.{tree_of, atom_of};
 ghost use Rattle.term_cuts.specs.term_mean.Meaning.{Valuation, mean};
 ghost use Rattle.term_cuts.specs.term_mean.Stores.{Stored};
 ghost use Rattle.term_cuts.specs.term_mean.Sums.{summed as summed_spec};
-ghost use Rattle.term_cuts.specs.term_mean.Shifts.{plain_two as plain_two_spec};
 ghost use Rattle.term_cuts.specs.term_mean.Normal as spec;
 ghost use Rattle.sym_term.specs.Views.{store_of};
 ghost use Rattle.sym_term.specs.machine.Kinds.{one_kind, one_ruled, two_kind};
 
 use crate::loads::loaded;
+use crate::opaque::{opaque_one, opaque_two};
 use crate::shifts::shifted;
 use crate::stores::SymStores;
-use bits64::Width;
+use bits64::{Opaque, Width};
 use plain_data::{Items, Memory};
 use rtx_tree::{MOST_NODES, Name};
 use std::alloc::Global;
 use term_cuts::{AtWidth, cut_to, extended, made_at};
-use term_sums::{constant_of, summed};
+use term_sums::summed;
 use term_tree::{Atom, Extension, Head, Joint, Term, is_small};
-use term_zero::{equals_zero, less_than, on_constants, two_parts};
+use term_zero::{equals_zero, less_than};
 use thiserror::Error;
 
 /// Why a term has no normal form that could be given.
@@ -112,6 +112,8 @@ enum OneRule {
 enum OneKind {
     /// What a rule makes of it.
     Ruled(OneRule),
+    /// What an operator makes of which nothing else is known.
+    Opaque(Opaque),
     /// What a memory holds there.
     Load,
     /// A node as it stands.
@@ -122,6 +124,7 @@ fn kind_of_one(head: Head) -> OneKind
     ensures { result ≡ one_kind head }
 {
     match head {
+        Head::Opaque(operator) => OneKind::Opaque(operator),
         Head::Trunc => OneKind::Ruled(OneRule::Low),
         Head::Zext => OneKind::Ruled(OneRule::Wide(Extension::Zero)),
         Head::Sext => OneKind::Ruled(OneRule::Wide(Extension::Sign)),
@@ -156,26 +159,17 @@ fn build_one(
 {
     match kind_of_one(head) {
         OneKind::Ruled(rule) => ruled(alloc, rule, w, &a),
+        OneKind::Opaque(operator) => opaque_one(alloc, operator, w, a),
         OneKind::Load => loaded(alloc, stores, w, number, a),
         OneKind::Other => one_node(alloc, head, w, number, name, a),
     }
 }
 
-/// An operation of which nothing else is known than that of constants.
-fn plain_two(alloc: Global, head: Head, w: Width, a: Term, b: Term) -> Result<Term, Memory>
-    ensures { IfOk result (λ r. tree_of r ≡ plain_two_spec head w (tree_of a) (tree_of b)) }
-{
-    let left = constant_of(&a);
-    let right = constant_of(&b);
-    let other = two_parts(alloc, head, w, a, b)?;
-    Ok(on_constants(alloc, left, right, head, w, other))
-}
-
 /// What is made of two parts.
 #[derive(Clone, Copy)]
 enum TwoKind {
-    /// An operation of which nothing else is known than that of constants.
-    Plain,
+    /// What an operator makes of which nothing else is known.
+    Opaque(Opaque),
     /// A shift.
     Shift,
     /// A comparison by less.
@@ -188,8 +182,7 @@ fn kind_of_two(head: Head) -> TwoKind
     ensures { result ≡ two_kind head }
 {
     match head {
-        Head::Mulh | Head::Mulhu | Head::Mulhsu | Head::Div | Head::Udiv | Head::Rem | Head::Urem =>
-            TwoKind::Plain,
+        Head::Opaque(operator) => TwoKind::Opaque(operator),
         Head::Shl | Head::Shr | Head::Sar => TwoKind::Shift,
         Head::Lt => TwoKind::Less(Extension::Sign),
         Head::Ltu => TwoKind::Less(Extension::Zero),
@@ -211,7 +204,7 @@ fn build_two(
         (tree_of b)) }
 {
     match kind_of_two(head) {
-        TwoKind::Plain => plain_two(alloc, head, w, a, b),
+        TwoKind::Opaque(operator) => opaque_two(alloc, operator, w, a, b),
         TwoKind::Shift => shifted(alloc, head, w, a, &b),
         TwoKind::Less(e) => less_than(alloc, e, w, &a, &b),
         TwoKind::Other => two_node(alloc, head, w, number, name, a, b),

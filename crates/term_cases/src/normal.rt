@@ -1,13 +1,13 @@
 //! Texts, normal forms and comparisons.
 use crate::term::{register_term, term_of};
-use bits64::Width;
+use bits64::{Relation, Width};
 use case_text::Told;
 use lisp_read::Tree;
 use plain_data::Items;
 use std::alloc::Global;
 use sym_term::{SymStore, SymStores, norm, relate};
 use term_text::print_term;
-use term_tree::{Measured, Relation, Term};
+use term_tree::{Measured, Term};
 use text_cases::{tree_in, trees_in};
 
 /// The comparisons by the names of their codes.

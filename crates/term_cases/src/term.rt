@@ -1,5 +1,5 @@
 //! The term that a tree writes.
-use bits64::{Width, trunc};
+use bits64::{Opaque, Width, trunc};
 use lisp_read::{Tree, atom, items};
 use plain_data::Items;
 use rtx_tree::{Name, reg_number};
@@ -7,17 +7,10 @@ use std::alloc::Global;
 use term_tree::{Atom, Head, Term};
 use text_words::number_in;
 
-/// The operators by their names.
-const HEADS: [(&str, Head); 22] = [
+/// The operators by their names, but for those of which nothing is known but their numbers.
+const HEADS: [(&str, Head); 15] = [
     ("sym", Head::Sym),
     ("mul", Head::Mul),
-    ("mulh", Head::Mulh),
-    ("mulhu", Head::Mulhu),
-    ("mulhsu", Head::Mulhsu),
-    ("div", Head::Div),
-    ("udiv", Head::Udiv),
-    ("rem", Head::Rem),
-    ("urem", Head::Urem),
     ("and", Head::And),
     ("ior", Head::Ior),
     ("xor", Head::Xor),
@@ -175,6 +168,11 @@ fn head_of(name: &[u8]) -> Option<Head> {
     for (known, head) in HEADS {
         if known.as_bytes() == name {
             return Some(head);
+        }
+    }
+    for opaque in Opaque::all() {
+        if opaque.name().as_bytes() == name {
+            return Some(Head::Opaque(*opaque));
         }
     }
     None

@@ -3,9 +3,10 @@ use Rattle.std.proofs.Common.{sym, cond, Bool, true, false, ◌≡◌, ℕ, ◌-
 use Rattle.bits64.specs.declared.Width.{Width}
 use Rattle.bits64.specs.declared.Width.TheVariants.{W8}
 use Rattle.bits64.specs.Words.{bits_of, low}
+use Rattle.bits64.specs.Operators.{holds}
 use Rattle.term_tree.specs.declared.head.Head.TheVariants as heads
-use Rattle.term_tree.specs.declared.head.Relation.{Relation}
-use Rattle.term_tree.specs.declared.head.Relation.TheVariants.{Eq, Ne, Lt, Gt, Le, Ge, Ltu, Gtu, Leu, Geu}
+use Rattle.bits64.specs.declared.operator.Relation.{Relation}
+use Rattle.bits64.specs.declared.operator.Relation.TheVariants.{Eq, Ne, Lt, Gt, Le, Ge, Ltu, Gtu, Leu, Geu}
 use Rattle.term_tree.specs.declared.head.Extension.TheVariants.{Zero, Sign}
 use Rattle.term_tree.specs.Tree.{Tree, width_of}
 use Rattle.term_tree.specs.Form.{same_width}
@@ -18,7 +19,7 @@ use Rattle.term_mean.specs.Shifts.{two_parts}
 use Rattle.term_mean.specs.Masks.{cut_to}
 use Rattle.term_mean.specs.Truths.{opposite}
 use Rattle.term_mean.specs.Less.{less_than}
-use Rattle.term_mean.specs.Relations.{difference, opposite_of, related, holds}
+use Rattle.term_mean.specs.Relations.{difference, opposite_of, related}
 use Rattle.term_mean.specs.Normal.{normal}
 use Rattle.term_mean.specs.Compared.{same_in, compared, low_bits}
 use Rattle.term_mean.proofs.SumLaws.{mean-summed, mean-cut}

@@ -11,13 +11,12 @@ use Rattle.term_tree.specs.Tree.{Tree, Atoms, Trees, Sum, Node, no_atoms, atom, 
 use Rattle.term_mean.specs.Meaning.{Valuation, mean, weighed, applied, values}
 use Rattle.term_mean.specs.Stores.{Store, Stored}
 use Rattle.term_mean.specs.Masks.{made_at}
-use Rattle.term_mean.specs.Shifts.{two_parts}
 use Rattle.term_mean.specs.Normal.{built_one, built_two, built_parts, built, normal, normal_atoms, normal_all}
 use Rattle.term_mean.proofs.SumLaws.{weight}
 use Rattle.term_mean.proofs.CutLaws.{mean-summed_cut}
 use Rattle.term_mean.proofs.ExtendedLaws.{mean-extended}
 use Rattle.term_mean.proofs.MaskLaws.{mean-made_at, is-cut_to}
-use Rattle.term_mean.proofs.ShiftLaws.{mean-on_constants}
+use Rattle.term_mean.proofs.ShiftLaws.{mean-opaque_one, mean-opaque_two}
 use Rattle.term_mean.proofs.ExactLaws.{mean-shifted}
 use Rattle.term_mean.proofs.TruthLaws.{small_truth}
 use Rattle.term_mean.proofs.ZeroLaws.{mean-equals_zero}
@@ -26,6 +25,7 @@ use Rattle.term_mean.proofs.LoadLaws.{mean-loaded}
 use Rattle.term_mean.proofs.NormalWidths.{width-normal}
 
 mean-built_one : (v : Valuation) (stores : List Store) (h : Head) (w : Width) (n : ℕ) (s : List ℕ) (a : Tree) → Stored v stores → mean v (built_one stores h w n s a) ≡ low (own_width h w) (applied v h w n s (values v (tree a no_trees)))
+mean-built_one v stores (heads.Opaque o) w n s a f = mean-opaque_one v o w a
 mean-built_one v stores heads.Trunc w n s a f = (is-cut_to v w a).0
 mean-built_one v stores heads.Zext w n s a f = mean-extended v Zero w (made_at w) a (mean-made_at v w)
 mean-built_one v stores heads.Sext w n s a f = mean-extended v Sign w (made_at w) a (mean-made_at v w)
@@ -34,13 +34,7 @@ mean-built_one v stores heads.Load w n s a f = mean-loaded v stores w n a f
 mean-built_one v stores h w n s a f = refl
 
 mean-built_two : (v : Valuation) (h : Head) (w : Width) (n : ℕ) (s : List ℕ) (a b : Tree) → mean v (built_two h w n s a b) ≡ low (own_width h w) (applied v h w n s (values v (tree a (tree b no_trees))))
-mean-built_two v heads.Mulh w n s a b = mean-on_constants v heads.Mulh w a b (two_parts heads.Mulh w a b) _ refl refl
-mean-built_two v heads.Mulhu w n s a b = mean-on_constants v heads.Mulhu w a b (two_parts heads.Mulhu w a b) _ refl refl
-mean-built_two v heads.Mulhsu w n s a b = mean-on_constants v heads.Mulhsu w a b (two_parts heads.Mulhsu w a b) _ refl refl
-mean-built_two v heads.Div w n s a b = mean-on_constants v heads.Div w a b (two_parts heads.Div w a b) _ refl refl
-mean-built_two v heads.Udiv w n s a b = mean-on_constants v heads.Udiv w a b (two_parts heads.Udiv w a b) _ refl refl
-mean-built_two v heads.Rem w n s a b = mean-on_constants v heads.Rem w a b (two_parts heads.Rem w a b) _ refl refl
-mean-built_two v heads.Urem w n s a b = mean-on_constants v heads.Urem w a b (two_parts heads.Urem w a b) _ refl refl
+mean-built_two v (heads.Opaque o) w n s a b = mean-opaque_two v o w a b
 mean-built_two v heads.Shl w n s a b = mean-shifted v heads.Shl (inl refl) w a b
 mean-built_two v heads.Shr w n s a b = mean-shifted v heads.Shr (inr (inl refl)) w a b
 mean-built_two v heads.Sar w n s a b = mean-shifted v heads.Sar (inr (inr refl)) w a b

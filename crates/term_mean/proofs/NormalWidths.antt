@@ -5,6 +5,10 @@ use Rattle.std.specs.declared.cmp.Ordering.TheVariants.{Less, Equal, Greater}
 use Rattle.bits64.specs.declared.Width.{Width}
 use Rattle.bits64.specs.declared.Width.TheVariants.{W8}
 use Rattle.bits64.specs.Words.{bits_of}
+use Rattle.bits64.specs.declared.operator.Opaque.{Opaque}
+use Rattle.bits64.specs.declared.operator.Taking.{Taking}
+use Rattle.bits64.specs.declared.operator.Taking.TheVariants.{Alone, Pair, Counted}
+use Rattle.bits64.specs.Operators.{opaque_taking}
 use Rattle.term_tree.specs.declared.head.Head.{Head}
 use Rattle.term_tree.specs.declared.head.Head.TheVariants as heads
 use Rattle.term_tree.specs.declared.head.Joint.TheVariants.{Mul, And, Ior, Xor}
@@ -17,7 +21,7 @@ use Rattle.term_tree.proofs.OrderLaws.{same_width-true}
 use Rattle.term_mean.specs.Stores.{Store}
 use Rattle.term_mean.specs.Sums.{constant, constant_in, sum, minus}
 use Rattle.term_mean.specs.Masks.{made_at, cut_to, low_8}
-use Rattle.term_mean.specs.Shifts.{two_parts, on_constants, plain_two, left_of, divides, divides_all, quotients, exact, right_exact, by_constant, by_count, shifted_by}
+use Rattle.term_mean.specs.Shifts.{two_parts, on_constant, on_constants, opaque_one, plain_two, opaque_two, left_of, divides, divides_all, quotients, exact, right_exact, by_constant, by_count, shifted_by}
 use Rattle.term_mean.specs.Truths.{is_truth, opposite}
 use Rattle.term_mean.specs.Zero.{nearer, Operands, operands_in, as_difference, zero_extended_test, zero_difference, zero_xor, zero_constant, zero_test, equals_zero}
 use Rattle.term_mean.specs.Less.{less_head, is_number, less_bounds, less_kind, less_extended, less_unless, less_test}
@@ -31,8 +35,20 @@ width-on_constants (Some x) (Some y) h w other e = refl
 width-on_constants (Some x) None h w other e = e
 width-on_constants None p h w other e = e
 
-width-plain_two : (h : Head) (w : Width) (a b : Tree) → width_of (plain_two h w a b) ≡ own_width h w
-width-plain_two h w a b = width-on_constants (constant_in a) (constant_in b) h w (two_parts h w a b) refl
+width-opaque_one : (o : Opaque) (w : Width) (a : Tree) → width_of (opaque_one o w a) ≡ w
+width-opaque_one o w a = go (constant_in a)
+  where
+    go : (c : Option ℕ) → width_of (on_constant c o w a) ≡ w
+    go (Some x) = refl
+    go None = refl
+
+width-plain_two : (o : Opaque) (w : Width) (a b : Tree) → width_of (plain_two o w a b) ≡ w
+width-plain_two o w a b = width-on_constants (constant_in a) (constant_in b) (heads.Opaque o) w (two_parts (heads.Opaque o) w a b) refl
+
+width-opaque_two : (t : Taking) (o : Opaque) (w : Width) (a b : Tree) → width_of (opaque_two t o w a b) ≡ w
+width-opaque_two Alone o w a b = width-plain_two o w a b
+width-opaque_two Pair o w a b = width-plain_two o w a b
+width-opaque_two Counted o w a b = width-plain_two o w a (low_8 b)
 
 -- ---- shifts
 width-right_exact : (o : Option Width) (e : Extension) (w : Width) (k : ℕ) (a b : Tree) → width_of (right_exact o (exact_head e) e w k a b) ≡ w
@@ -150,6 +166,7 @@ width-less_test (suc n) e w a b =
 
 -- ---- the normal form
 width-built_one : (stores : List Store) (h : Head) (w : Width) (n : ℕ) (s : List ℕ) (a : Tree) → width_of (built_one stores h w n s a) ≡ own_width h w
+width-built_one stores (heads.Opaque o) w n s a = width-opaque_one o w a
 width-built_one stores heads.Trunc w n s a = width-cut_to w a
 width-built_one stores heads.Zext w n s a = width-extended (made_at w) Zero w a (width-made_at w)
 width-built_one stores heads.Sext w n s a = width-extended (made_at w) Sign w a (width-made_at w)
@@ -158,13 +175,7 @@ width-built_one stores heads.Load w n s a = refl
 width-built_one stores h w n s a = refl
 
 width-built_two : (h : Head) (w : Width) (n : ℕ) (s : List ℕ) (a b : Tree) → width_of (built_two h w n s a b) ≡ own_width h w
-width-built_two heads.Mulh w n s a b = width-plain_two heads.Mulh w a b
-width-built_two heads.Mulhu w n s a b = width-plain_two heads.Mulhu w a b
-width-built_two heads.Mulhsu w n s a b = width-plain_two heads.Mulhsu w a b
-width-built_two heads.Div w n s a b = width-plain_two heads.Div w a b
-width-built_two heads.Udiv w n s a b = width-plain_two heads.Udiv w a b
-width-built_two heads.Rem w n s a b = width-plain_two heads.Rem w a b
-width-built_two heads.Urem w n s a b = width-plain_two heads.Urem w a b
+width-built_two (heads.Opaque o) w n s a b = width-opaque_two (opaque_taking o) o w a b
 width-built_two heads.Shl w n s a b = width-left w a (low_8 b)
 width-built_two heads.Shr w n s a b = width-logical w a (low_8 b)
 width-built_two heads.Sar w n s a b = width-arithmetic w a (low_8 b)

@@ -3,14 +3,15 @@ use Rattle.std.proofs.Common.{◌≡◌, ℕ, ◌+◌, ◌*◌, ◌-◌, ◌^◌
 use Rattle.bits64.specs.declared.Width.{Width}
 use Rattle.bits64.specs.declared.Width.TheVariants.{W8}
 use Rattle.bits64.specs.Words.{bits_of, low, less_signed, less_unsigned}
+use Rattle.bits64.specs.Operators.{holds}
 use Rattle.term_tree.specs.declared.head.Head.TheVariants as heads
-use Rattle.term_tree.specs.declared.head.Relation.{Relation}
-use Rattle.term_tree.specs.declared.head.Relation.TheVariants.{Eq, Ne, Lt, Gt, Le, Ge, Ltu, Gtu, Leu, Geu}
+use Rattle.bits64.specs.declared.operator.Relation.{Relation}
+use Rattle.bits64.specs.declared.operator.Relation.TheVariants.{Eq, Ne, Lt, Gt, Le, Ge, Ltu, Gtu, Leu, Geu}
 use Rattle.term_tree.specs.Tree.{Tree}
 use Rattle.term_mean.specs.Meaning.{Valuation, mean, truth}
 use Rattle.term_mean.specs.Cuts.{one_part}
 use Rattle.term_mean.specs.Shifts.{two_parts}
-use Rattle.term_mean.specs.Relations.{difference, opposite_of, related, holds}
+use Rattle.term_mean.specs.Relations.{difference, opposite_of, related}
 use Rattle.term_mean.proofs.Modulo.{same-cut}
 use Rattle.term_mean.proofs.RuleLaws.{difference-zero}
 use Rattle.term_mean.proofs.TruthLaws.{small_truth}

@@ -4,15 +4,22 @@ use Rattle.std.specs.Int.{int_shr}
 use Rattle.std.proofs.Math.Nat.{mod-mod}
 use Rattle.bits64.specs.declared.Width.{Width}
 use Rattle.bits64.specs.declared.Width.TheVariants.{W8, W16, W32, W64}
+use Rattle.bits64.specs.declared.operator.Opaque.{Opaque}
+use Rattle.bits64.specs.declared.operator.Taking.{Taking}
+use Rattle.bits64.specs.declared.operator.Taking.TheVariants.{Alone, Pair, Counted}
+use Rattle.bits64.specs.Operators.{opaque_taking, opaque_number}
+use Rattle.bits64.proofs.Operators.{opaque_counted}
 use Rattle.bits64.specs.Words.{bits_of, low, signed, wrapped, shifted_left, shifted_right, shifted_arithmetic}
 use Rattle.term_tree.specs.declared.head.Head.{Head}
 use Rattle.term_tree.specs.declared.head.Head.TheVariants as heads
 use Rattle.term_tree.specs.Tree.{Tree, Sum, Node, no_atoms, atom, own_width}
 use Rattle.term_mean.specs.Meaning.{Valuation, mean}
 use Rattle.term_mean.specs.Sums.{constant, constant_in, times}
-use Rattle.term_mean.specs.Shifts.{two_parts, binary_number, on_constants}
+use Rattle.term_mean.specs.Masks.{low_8}
+use Rattle.term_mean.specs.Shifts.{two_parts, binary_number, on_constant, on_constants, opaque_one, plain_two, opaque_two}
 use Rattle.term_mean.proofs.SumLaws.{mean-constant, mean-times}
 use Rattle.term_mean.proofs.JoinLaws.{low_plus_zero}
+use Rattle.term_mean.proofs.MaskLaws.{is-low_8}
 
 -- ---- constants
 pub constant-is : (v : Valuation) (t : Tree) (c : ℕ) → constant_in t ≡ Some c → mean v t ≡ c
@@ -39,6 +46,29 @@ count-cut W8 n = omega arith
 count-cut W16 n = omega arith
 count-cut W32 n = omega arith
 count-cut W64 n = omega arith
+
+-- ---- operators of which nothing is known but their numbers
+pub mean-opaque_one : (v : Valuation) (o : Opaque) (w : Width) (a : Tree) → mean v (opaque_one o w a) ≡ low w (opaque_number o w (mean v a) 0)
+mean-opaque_one v o w a = go (constant_in a) refl
+  where
+    go : (x : Option ℕ) → constant_in a ≡ x → mean v (on_constant x o w a) ≡ low w (opaque_number o w (mean v a) 0)
+    go (Some x) e =
+        mean-constant v w (opaque_number o w x 0)
+        ∙ ap (λ z. low w (opaque_number o w z 0)) (sym (constant-is v a x e))
+    go None e = refl
+
+mean-plain_two : (v : Valuation) (o : Opaque) (w : Width) (a b : Tree) → mean v (plain_two o w a b) ≡ low w (opaque_number o w (mean v a) (mean v b))
+mean-plain_two v o w a b = mean-on_constants v (heads.Opaque o) w a b (two_parts (heads.Opaque o) w a b) _ refl refl
+
+pub mean-opaque_two : (v : Valuation) (o : Opaque) (w : Width) (a b : Tree) → mean v (opaque_two (opaque_taking o) o w a b) ≡ low w (opaque_number o w (mean v a) (mean v b))
+mean-opaque_two v o w a b = go (opaque_taking o) refl
+  where
+    go : (t : Taking) → opaque_taking o ≡ t → mean v (opaque_two t o w a b) ≡ low w (opaque_number o w (mean v a) (mean v b))
+    go Alone is = mean-plain_two v o w a b
+    go Pair is = mean-plain_two v o w a b
+    go Counted is =
+        let count : mean v (low_8 b) % bits_of w ≡ mean v b % bits_of w = ap (λ n. n % bits_of w) (is-low_8 v b).0 ∙ count-cut w (mean v b) in
+        mean-plain_two v o w a (low_8 b) ∙ ap (low w) (opaque_counted o w (mean v a) (mean v (low_8 b)) (mean v b) is count)
 
 -- the number of a shift, by its head
 abbrev pub shift_number : Head → Width → ℕ → ℕ → ℕ

@@ -1,9 +1,11 @@
 -- The number of a term.
-use Rattle.std.specs.Prelude.{ℕ, zero, suc, List, [], ◌∷◌, ◌+◌, ◌-◌, ◌*◌, ◌%◌, ◌^◌, ◌==◌, bit_and, bit_or, bit_xor, if◌then◌else◌, Bool}
+use Rattle.std.specs.Prelude.{ℕ, zero, suc, List, [], ◌∷◌, ◌+◌, ◌-◌, ◌*◌, ◌%◌, ◌^◌, ◌==◌, bit_and, bit_or, bit_xor}
 use Rattle.bits64.specs.declared.Width.{Width}
-use Rattle.bits64.specs.Words.{bytes_of, low, high_signed, high_unsigned, high_mixed, quotient_signed, quotient_unsigned, remainder_signed, remainder_unsigned, shifted_left, shifted_right, shifted_arithmetic, sign_extended, zero_extended, less_signed, less_unsigned}
+use Rattle.bits64.specs.Operators.{opaque_number}
+pub use Rattle.bits64.specs.Operators.{truth}
+use Rattle.bits64.specs.Words.{bytes_of, low, shifted_left, shifted_right, shifted_arithmetic, sign_extended, zero_extended, less_signed, less_unsigned}
 use Rattle.term_tree.specs.declared.head.Head.{Head}
-use Rattle.term_tree.specs.declared.head.Head.TheVariants.{Reg, Sym, Mul, Mulh, Mulhu, Mulhsu, Div, Udiv, Rem, Urem, And, Ior, Xor, Shl, Shr, Sar, Trunc, Zext, Sext, Lt, Ltu, Eq, Load}
+use Rattle.term_tree.specs.declared.head.Head.TheVariants.{Reg, Sym, Mul, Opaque, And, Ior, Xor, Shl, Shr, Sar, Trunc, Zext, Sext, Lt, Ltu, Eq, Load}
 use Rattle.term_tree.specs.Tree.{Tree, Atoms, Trees, Sum, Node, no_atoms, atom, no_trees, tree, own_width, width_of}
 
 -- what registers and symbols are, and the byte at each address of each memory: memory 0 is that of
@@ -18,9 +20,6 @@ abbrev pub bytes_at : (ℕ → ℕ) → ℕ → ℕ → ℕ
 bytes_at m zero a = 0
 bytes_at m (suc k) a = m (a % 2 ^ 64) % 256 + 256 * bytes_at m k (a + 1)
 
-abbrev pub truth : Bool → ℕ
-truth b = if b then 1 else 0
-
 -- a part's width and number
 abbrev pub Value : Type 0
 Value = Width × ℕ
@@ -33,6 +32,12 @@ abbrev pub on_two : List Value → (ℕ → ℕ → ℕ) → ℕ
 on_two (a ∷ b ∷ []) f = f a.1 b.1
 on_two _ f = 0
 
+-- of one part with 0, or of two
+abbrev pub on_parts : List Value → (ℕ → ℕ → ℕ) → ℕ
+on_parts (a ∷ []) f = f a.1 0
+on_parts (a ∷ b ∷ []) f = f a.1 b.1
+on_parts _ f = 0
+
 -- an operator over all parts, from the number that changes nothing
 abbrev pub over_all : (ℕ → ℕ → ℕ) → ℕ → List Value → ℕ
 over_all f z [] = z
@@ -41,13 +46,7 @@ over_all f z (x ∷ xs) = f x.1 (over_all f z xs)
 -- the number of an operation on numbers, before it is cut to its width
 abbrev pub operation : Head → Width → List Value → ℕ
 operation Mul w xs = over_all ◌*◌ 1 xs
-operation Mulh w xs = on_two xs (high_signed w)
-operation Mulhu w xs = on_two xs (high_unsigned w)
-operation Mulhsu w xs = on_two xs (high_mixed w)
-operation Div w xs = on_two xs (quotient_signed w)
-operation Udiv w xs = on_two xs (quotient_unsigned w)
-operation Rem w xs = on_two xs (remainder_signed w)
-operation Urem w xs = on_two xs (remainder_unsigned w)
+operation (Opaque o) w xs = on_parts xs (opaque_number o w)
 operation And w xs = over_all bit_and (2 ^ 64 - 1) xs
 operation Ior w xs = over_all bit_or 0 xs
 operation Xor w xs = over_all bit_xor 0 xs

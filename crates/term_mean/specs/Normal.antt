@@ -2,6 +2,7 @@
 -- the head.
 use Rattle.std.specs.Prelude.{ℕ, List, [], ◌∷◌}
 use Rattle.bits64.specs.declared.Width.{Width}
+use Rattle.bits64.specs.Operators.{opaque_taking}
 use Rattle.term_tree.specs.declared.head.Head.{Head}
 use Rattle.term_tree.specs.declared.head.Head.TheVariants as heads
 use Rattle.term_tree.specs.declared.head.Joint.TheVariants.{Mul, And, Ior, Xor}
@@ -11,13 +12,14 @@ use Rattle.term_mean.specs.Stores.{Store}
 use Rattle.term_mean.specs.Sums.{summed}
 use Rattle.term_mean.specs.Extensions.{extended}
 use Rattle.term_mean.specs.Masks.{made_at, cut_to}
-use Rattle.term_mean.specs.Shifts.{plain_two, shifted}
+use Rattle.term_mean.specs.Shifts.{opaque_one, opaque_two, shifted}
 use Rattle.term_mean.specs.Zero.{equals_zero}
 use Rattle.term_mean.specs.Less.{less_than}
 use Rattle.term_mean.specs.Loads.{loaded}
 
 -- what the rules of a head make of one normal part
 abbrev pub built_one : List Store → Head → Width → ℕ → List ℕ → Tree → Tree
+built_one stores (heads.Opaque o) w n s a = opaque_one o w a
 built_one stores heads.Trunc w n s a = cut_to w a
 built_one stores heads.Zext w n s a = extended (made_at w) Zero w a
 built_one stores heads.Sext w n s a = extended (made_at w) Sign w a
@@ -27,13 +29,7 @@ built_one stores h w n s a = Node h w n s (tree a no_trees)
 
 -- what the rules of a head make of two normal parts
 abbrev pub built_two : Head → Width → ℕ → List ℕ → Tree → Tree → Tree
-built_two heads.Mulh w n s a b = plain_two heads.Mulh w a b
-built_two heads.Mulhu w n s a b = plain_two heads.Mulhu w a b
-built_two heads.Mulhsu w n s a b = plain_two heads.Mulhsu w a b
-built_two heads.Div w n s a b = plain_two heads.Div w a b
-built_two heads.Udiv w n s a b = plain_two heads.Udiv w a b
-built_two heads.Rem w n s a b = plain_two heads.Rem w a b
-built_two heads.Urem w n s a b = plain_two heads.Urem w a b
+built_two (heads.Opaque o) w n s a b = opaque_two (opaque_taking o) o w a b
 built_two heads.Shl w n s a b = shifted heads.Shl w a b
 built_two heads.Shr w n s a b = shifted heads.Shr w a b
 built_two heads.Sar w n s a b = shifted heads.Sar w a b

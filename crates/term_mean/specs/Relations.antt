@@ -1,11 +1,11 @@
 -- Comparisons of two terms of w bits, as terms of 8 bits.
-use Rattle.std.specs.Prelude.{ℕ, ◌-◌, ◌^◌, ◌==◌, Bool, not, []}
+use Rattle.std.specs.Prelude.{◌-◌, ◌^◌, []}
 use Rattle.bits64.specs.declared.Width.{Width}
 use Rattle.bits64.specs.declared.Width.TheVariants.{W8}
-use Rattle.bits64.specs.Words.{bits_of, low, less_signed, less_unsigned}
+use Rattle.bits64.specs.Words.{bits_of}
 use Rattle.term_tree.specs.declared.head.Head.TheVariants as heads
-use Rattle.term_tree.specs.declared.head.Relation.{Relation}
-use Rattle.term_tree.specs.declared.head.Relation.TheVariants.{Eq, Ne, Lt, Gt, Le, Ge, Ltu, Gtu, Leu, Geu}
+use Rattle.bits64.specs.declared.operator.Relation.{Relation}
+use Rattle.bits64.specs.declared.operator.Relation.TheVariants.{Eq, Ne, Lt, Gt, Le, Ge, Ltu, Gtu, Leu, Geu}
 use Rattle.term_tree.specs.Tree.{Tree, Sum, Node, no_atoms, atom, no_trees, tree}
 use Rattle.term_mean.specs.Cuts.{one_part}
 use Rattle.term_mean.specs.Shifts.{two_parts}
@@ -30,16 +30,3 @@ related Ltu w a b = two_parts heads.Ltu w a b
 related Gtu w a b = two_parts heads.Ltu w b a
 related Leu w a b = opposite_of (two_parts heads.Ltu w b a)
 related Geu w a b = opposite_of (two_parts heads.Ltu w a b)
-
--- when a relation holds between two numbers
-abbrev pub holds : Relation → Width → ℕ → ℕ → Bool
-holds Eq w a b = low w a == low w b
-holds Ne w a b = not (low w a == low w b)
-holds Lt w a b = less_signed w a b
-holds Gt w a b = less_signed w b a
-holds Le w a b = not (less_signed w b a)
-holds Ge w a b = not (less_signed w a b)
-holds Ltu w a b = less_unsigned w a b
-holds Gtu w a b = less_unsigned w b a
-holds Leu w a b = not (less_unsigned w b a)
-holds Geu w a b = not (less_unsigned w a b)

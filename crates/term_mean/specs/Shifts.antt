@@ -4,7 +4,11 @@
 use Rattle.std.specs.Prelude.{ℕ, zero, suc, ◌/◌, ◌%◌, ◌^◌, ◌==◌, Bool, true, if◌then◌else◌, ◌&&◌, List, [], ◌∷◌, Option, Some, None}
 use Rattle.bits64.specs.declared.Width.{Width}
 use Rattle.bits64.specs.declared.Width.TheVariants.{W8, W16, W32, W64}
-use Rattle.bits64.specs.Words.{bits_of, high_signed, high_unsigned, high_mixed, quotient_signed, quotient_unsigned, remainder_signed, remainder_unsigned, shifted_left, shifted_right, shifted_arithmetic, less_signed, less_unsigned}
+use Rattle.bits64.specs.declared.operator.Opaque.{Opaque}
+use Rattle.bits64.specs.declared.operator.Taking.{Taking}
+use Rattle.bits64.specs.declared.operator.Taking.TheVariants.{Alone, Pair, Counted}
+use Rattle.bits64.specs.Operators.{opaque_number}
+use Rattle.bits64.specs.Words.{bits_of, shifted_left, shifted_right, shifted_arithmetic, less_signed, less_unsigned}
 use Rattle.term_tree.specs.declared.head.Head.{Head}
 use Rattle.term_tree.specs.declared.head.Head.TheVariants as heads
 use Rattle.term_tree.specs.declared.head.Extension.{Extension}
@@ -13,6 +17,7 @@ use Rattle.term_tree.specs.Tree.{Tree, Atoms, AtomTree, Sum, Node, no_atoms, ato
 use Rattle.term_tree.specs.Form.{same_width}
 use Rattle.term_mean.specs.Meaning.{truth}
 use Rattle.term_mean.specs.Sums.{constant, constant_in, sum, times}
+use Rattle.term_mean.specs.Cuts.{one_part}
 use Rattle.term_mean.specs.Extensions.{extended}
 use Rattle.term_mean.specs.Masks.{made_at, cut_to, low_8}
 
@@ -21,13 +26,7 @@ two_parts h w a b = Node h w 0 [] (tree a (tree b no_trees))
 
 -- the number of an operation of two parts
 abbrev pub binary_number : Head → Width → ℕ → ℕ → ℕ
-binary_number heads.Mulh w x y = high_signed w x y
-binary_number heads.Mulhu w x y = high_unsigned w x y
-binary_number heads.Mulhsu w x y = high_mixed w x y
-binary_number heads.Div w x y = quotient_signed w x y
-binary_number heads.Udiv w x y = quotient_unsigned w x y
-binary_number heads.Rem w x y = remainder_signed w x y
-binary_number heads.Urem w x y = remainder_unsigned w x y
+binary_number (heads.Opaque o) w x y = opaque_number o w x y
 binary_number heads.Shl w x y = shifted_left w x y
 binary_number heads.Shr w x y = shifted_right w x y
 binary_number heads.Sar w x y = shifted_arithmetic w x y
@@ -41,9 +40,21 @@ on_constants (Some x) (Some y) h w other = constant (own_width h w) (binary_numb
 on_constants (Some x) None h w other = other
 on_constants None b h w other = other
 
--- an operation of which nothing else is known
-abbrev pub plain_two : Head → Width → Tree → Tree → Tree
-plain_two h w a b = on_constants (constant_in a) (constant_in b) h w (two_parts h w a b)
+-- an operator of which nothing else is known, over one part, and over two: a count is cut to 8 bits
+abbrev pub on_constant : Option ℕ → Opaque → Width → Tree → Tree
+on_constant (Some x) o w a = constant w (opaque_number o w x 0)
+on_constant None o w a = one_part (heads.Opaque o) w a
+
+abbrev pub opaque_one : Opaque → Width → Tree → Tree
+opaque_one o w a = on_constant (constant_in a) o w a
+
+abbrev pub plain_two : Opaque → Width → Tree → Tree → Tree
+plain_two o w a b = on_constants (constant_in a) (constant_in b) (heads.Opaque o) w (two_parts (heads.Opaque o) w a b)
+
+abbrev pub opaque_two : Taking → Opaque → Width → Tree → Tree → Tree
+opaque_two Alone o w a b = plain_two o w a b
+opaque_two Pair o w a b = plain_two o w a b
+opaque_two Counted o w a b = plain_two o w a (low_8 b)
 
 -- the width that is left of w after k bits, where it is 8, 16 or 32
 abbrev pub left_of : Width → ℕ → Option Width

@@ -4,8 +4,9 @@ use Rattle.std.specs.Fmt.{decimal, signed_decimal}
 use Rattle.rtx_tree.specs.Registers.{register_text}
 use Rattle.bits64.specs.declared.Width.{Width}
 use Rattle.bits64.specs.Words.{bits_of, signed}
+use Rattle.bits64.specs.Operators.{opaque_name}
 use Rattle.term_tree.specs.declared.head.Head.{Head}
-use Rattle.term_tree.specs.declared.head.Head.TheVariants.{Reg, Sym, Mul, Mulh, Mulhu, Mulhsu, Div, Udiv, Rem, Urem, And, Ior, Xor, Shl, Shr, Sar, Trunc, Zext, Sext, Lt, Ltu, Eq, Load}
+use Rattle.term_tree.specs.declared.head.Head.TheVariants.{Reg, Sym, Mul, Opaque, And, Ior, Xor, Shl, Shr, Sar, Trunc, Zext, Sext, Lt, Ltu, Eq, Load}
 use Rattle.term_tree.specs.declared.head.Head.TheVariants as heads
 use Rattle.term_tree.specs.Tree.{Tree, Atoms, Trees, Sum, Node, no_atoms, atom, no_trees, tree}
 
@@ -14,13 +15,7 @@ head_name Reg = codes "reg"
 head_name Sym = codes "sym"
 head_name heads.Sum = codes "sum"
 head_name Mul = codes "mul"
-head_name Mulh = codes "mulh"
-head_name Mulhu = codes "mulhu"
-head_name Mulhsu = codes "mulhsu"
-head_name Div = codes "div"
-head_name Udiv = codes "udiv"
-head_name Rem = codes "rem"
-head_name Urem = codes "urem"
+head_name (Opaque o) = opaque_name o
 head_name And = codes "and"
 head_name Ior = codes "ior"
 head_name Xor = codes "xor"

@@ -1,13 +1,16 @@
 -- Terms that the order does not tell apart are the same.
-use Rattle.std.proofs.Common.{◌≡◌, ℕ, List, [], ◌∷◌, refl, sym, ◌∙◌, ap, arith, tests, cond, eqb, true, slice_index_or}
+use Rattle.std.proofs.Common.{◌≡◌, ℕ, ◌+◌, ◌-◌, ◌<◌, nat_lt, false, List, [], ◌∷◌, refl, sym, ◌∙◌, ap, arith, tests, cond, eqb, true, slice_index_or}
 use Rattle.std.specs.declared.cmp.Ordering.{Ordering}
 use Rattle.std.specs.declared.cmp.Ordering.TheVariants.{Less, Equal, Greater}
+use Rattle.std.specs.Prelude.{if◌then◌else◌}
 use Rattle.std.specs.Ordering.{nat_cmp, ordering_then}
 use Rattle.bits64.specs.declared.Width.{Width}
 use Rattle.bits64.specs.declared.Width.TheVariants.{W8, W16, W32, W64}
 use Rattle.bits64.specs.Words.{bits_of}
+use Rattle.bits64.specs.Operators.{opaque_index}
+use Rattle.bits64.proofs.Operators.{opaque_at, opaque_at-index, opaque_few}
 use Rattle.term_tree.specs.declared.head.Head.{Head}
-use Rattle.term_tree.specs.declared.head.Head.TheVariants.{Reg, Sym, Mul, Mulh, Mulhu, Mulhsu, Div, Udiv, Rem, Urem, And, Ior, Xor, Shl, Shr, Sar, Trunc, Zext, Sext, Lt, Ltu, Eq, Load}
+use Rattle.term_tree.specs.declared.head.Head.TheVariants.{Reg, Sym, Mul, Opaque, And, Ior, Xor, Shl, Shr, Sar, Trunc, Zext, Sext, Lt, Ltu, Eq, Load}
 use Rattle.term_tree.specs.declared.head.Head.TheVariants as heads
 use Rattle.term_tree.specs.Tree.{Tree, Atoms, Trees, Sum, Node, no_atoms, atom, no_trees, tree}
 use Rattle.term_tree.specs.Form.{same_width}
@@ -21,23 +24,28 @@ then-equal Greater b e = cc
 pub nat_cmp-equal : (x y : ℕ) → nat_cmp x y ≡ Equal → x ≡ y
 nat_cmp-equal x y e = grind (arith, tests)
 
--- a head and a width from its number
+-- a head and a width from its number: operators of which nothing else is known stand between the heads
+-- before and behind them
 head_at : ℕ → Head
-head_at i = slice_index_or (Reg ∷ Sym ∷ heads.Sum ∷ Mul ∷ Mulh ∷ Mulhu ∷ Mulhsu ∷ Div ∷ Udiv ∷ Rem ∷ Urem ∷ And ∷ Ior ∷ Xor ∷ Shl ∷ Shr ∷ Sar ∷ Trunc ∷ Zext ∷ Sext ∷ Lt ∷ Ltu ∷ Eq ∷ Load ∷ []) i Reg
+head_at i =
+    if nat_lt i 4 then slice_index_or (Reg ∷ Sym ∷ heads.Sum ∷ Mul ∷ []) i Reg else (
+    if nat_lt i 64 then Opaque (opaque_at (i - 4)) else slice_index_or (And ∷ Ior ∷ Xor ∷ Shl ∷ Shr ∷ Sar ∷ Trunc ∷ Zext ∷ Sext ∷ Lt ∷ Ltu ∷ Eq ∷ Load ∷ []) (i - 64) Reg)
+
+head_at-opaque : (i : ℕ) → i < 60 → head_at (4 + i) ≡ Opaque (opaque_at i)
+unfolding head_at
+head_at-opaque i few =
+    let back : 4 + i - 4 ≡ i = omega arith in
+    let high : nat_lt (4 + i) 4 ≡ false = grind arith in
+    let low : nat_lt (4 + i) 64 ≡ true = grind (arith, few) in
+    cc
 
 head_at-index : (h : Head) → head_at (head_index h) ≡ h
 unfolding head_at
+head_at-index (Opaque o) = head_at-opaque (opaque_index o) (opaque_few o) ∙ ap Opaque (opaque_at-index o)
 head_at-index Reg = refl
 head_at-index Sym = refl
 head_at-index heads.Sum = refl
 head_at-index Mul = refl
-head_at-index Mulh = refl
-head_at-index Mulhu = refl
-head_at-index Mulhsu = refl
-head_at-index Div = refl
-head_at-index Udiv = refl
-head_at-index Rem = refl
-head_at-index Urem = refl
 head_at-index And = refl
 head_at-index Ior = refl
 head_at-index Xor = refl

@@ -4,8 +4,11 @@ use Rattle.std.specs.Prelude.{ℕ, ◌^◌, ◌==◌, nat_lt, Bool, true, false,
 use Rattle.bits64.specs.declared.Width.{Width}
 use Rattle.bits64.specs.declared.Width.TheVariants.{W64}
 use Rattle.bits64.specs.Words.{bits_of}
+use Rattle.bits64.specs.declared.operator.Taking.{Taking}
+use Rattle.bits64.specs.declared.operator.Taking.TheVariants.{Alone, Pair, Counted}
+use Rattle.bits64.specs.Operators.{opaque_taking}
 use Rattle.term_tree.specs.declared.head.Head.{Head}
-use Rattle.term_tree.specs.declared.head.Head.TheVariants.{Reg, Sym, Mul, Mulh, Mulhu, Mulhsu, Div, Udiv, Rem, Urem, And, Ior, Xor, Shl, Shr, Sar, Trunc, Zext, Sext, Lt, Ltu, Eq, Load}
+use Rattle.term_tree.specs.declared.head.Head.TheVariants.{Reg, Sym, Mul, Opaque, And, Ior, Xor, Shl, Shr, Sar, Trunc, Zext, Sext, Lt, Ltu, Eq, Load}
 use Rattle.term_tree.specs.declared.head.Head.TheVariants as heads
 use Rattle.term_tree.specs.Tree.{Tree, Atoms, Trees, Sum, Node, no_atoms, atom, no_trees, tree, width_of}
 
@@ -53,6 +56,12 @@ abbrev pub none_of_64 : Width → Trees → Bool
 none_of_64 w no_trees = same_width w W64
 none_of_64 w _ = false
 
+-- the parts of an operator of which nothing else is known
+abbrev pub opaque_takes : Taking → Width → Trees → Bool
+opaque_takes Alone w ps = one w ps
+opaque_takes Pair w ps = two w ps
+opaque_takes Counted w ps = counted w ps
+
 -- the parts that a head takes in a width: a register and a symbol have 64 bits and none
 abbrev pub takes : Head → Width → Trees → Bool
 takes Reg w ps = none_of_64 w ps
@@ -62,13 +71,7 @@ takes Mul w ps = several w ps
 takes And w ps = several w ps
 takes Ior w ps = several w ps
 takes Xor w ps = several w ps
-takes Mulh w ps = two w ps
-takes Mulhu w ps = two w ps
-takes Mulhsu w ps = two w ps
-takes Div w ps = two w ps
-takes Udiv w ps = two w ps
-takes Rem w ps = two w ps
-takes Urem w ps = two w ps
+takes (Opaque o) w ps = opaque_takes (opaque_taking o) w ps
 takes Shl w ps = counted w ps
 takes Shr w ps = counted w ps
 takes Sar w ps = counted w ps

@@ -1,41 +1,37 @@
 -- The order of terms: registers by number, and then by head, width, number, name, and the parts
 -- from the left, fewer first. It is lexicographic throughout.
-use Rattle.std.specs.Prelude.{ℕ, List, [], ◌∷◌}
+use Rattle.std.specs.Prelude.{ℕ, ◌+◌, List, [], ◌∷◌}
 use Rattle.std.specs.declared.cmp.Ordering.{Ordering}
 use Rattle.std.specs.declared.cmp.Ordering.TheVariants.{Less, Equal, Greater}
 use Rattle.std.specs.Ordering.{nat_cmp, ordering_then}
 use Rattle.bits64.specs.Words.{bits_of}
+use Rattle.bits64.specs.Operators.{opaque_index}
 use Rattle.term_tree.specs.declared.head.Head.{Head}
-use Rattle.term_tree.specs.declared.head.Head.TheVariants.{Reg, Sym, Mul, Mulh, Mulhu, Mulhsu, Div, Udiv, Rem, Urem, And, Ior, Xor, Shl, Shr, Sar, Trunc, Zext, Sext, Lt, Ltu, Eq, Load}
+use Rattle.term_tree.specs.declared.head.Head.TheVariants.{Reg, Sym, Mul, Opaque, And, Ior, Xor, Shl, Shr, Sar, Trunc, Zext, Sext, Lt, Ltu, Eq, Load}
 use Rattle.term_tree.specs.declared.head.Head.TheVariants as heads
 use Rattle.term_tree.specs.Tree.{Tree, Atoms, Trees, Sum, Node, no_atoms, atom, no_trees, tree}
 
--- the place of a head among all: registers come first
+-- the place of a head among all: registers come first. There is room for operators of which nothing
+-- else is known
 abbrev pub head_index : Head → ℕ
 head_index Reg = 0
 head_index Sym = 1
 head_index heads.Sum = 2
 head_index Mul = 3
-head_index Mulh = 4
-head_index Mulhu = 5
-head_index Mulhsu = 6
-head_index Div = 7
-head_index Udiv = 8
-head_index Rem = 9
-head_index Urem = 10
-head_index And = 11
-head_index Ior = 12
-head_index Xor = 13
-head_index Shl = 14
-head_index Shr = 15
-head_index Sar = 16
-head_index Trunc = 17
-head_index Zext = 18
-head_index Sext = 19
-head_index Lt = 20
-head_index Ltu = 21
-head_index Eq = 22
-head_index Load = 23
+head_index (Opaque o) = 4 + opaque_index o
+head_index And = 64
+head_index Ior = 65
+head_index Xor = 66
+head_index Shl = 67
+head_index Shr = 68
+head_index Sar = 69
+head_index Trunc = 70
+head_index Zext = 71
+head_index Sext = 72
+head_index Lt = 73
+head_index Ltu = 74
+head_index Eq = 75
+head_index Load = 76
 
 -- numbers from the left, fewer first
 abbrev pub numbers_cmp : List ℕ → List ℕ → Ordering

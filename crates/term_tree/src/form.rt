@@ -6,7 +6,7 @@ ghost use Rattle.term_tree.specs.View.{tree_of, atom_of};
 
 use crate::head::Head;
 use crate::term::{Atom, Term};
-use bits64::Width;
+use bits64::{Taking, Width};
 
 impl Term {
     /// The width of the term's number.
@@ -131,6 +131,17 @@ fn is_none_of_64(w: Width, parts: &[Term]) -> bool
     }
 }
 
+/// Whether an operator of which nothing else is known takes these parts in a width.
+fn does_opaque_take(taking: Taking, w: Width, parts: &[Term]) -> bool
+    ensures { result ≡ spec.opaque_takes taking w (trees_of (map tree_of parts.now)) }
+{
+    match taking {
+        Taking::Alone => is_one(w, parts),
+        Taking::Pair => are_two(w, parts),
+        Taking::Counted => are_counted(w, parts),
+    }
+}
+
 /// Whether a head takes these parts in a width.
 fn does_take(head: Head, w: Width, parts: &[Term]) -> bool
     ensures { result ≡ spec.takes head w (trees_of (map tree_of parts.now)) }
@@ -139,6 +150,7 @@ fn does_take(head: Head, w: Width, parts: &[Term]) -> bool
         Head::Reg | Head::Sym => is_none_of_64(w, parts),
         Head::Sum => false,
         Head::Mul | Head::And | Head::Ior | Head::Xor => are_several(w, parts),
+        Head::Opaque(operator) => does_opaque_take(operator.taking(), w, parts),
         Head::Shl | Head::Shr | Head::Sar => are_counted(w, parts),
         Head::Trunc => is_one_wider(w, parts),
         Head::Zext | Head::Sext => is_one_narrower(w, parts),

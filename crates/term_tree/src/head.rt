@@ -1,4 +1,5 @@
 //! The operators of terms.
+use bits64::Opaque;
 
 /// The operator of a term, in the order of terms.
 #[derive(Clone, Copy)]
@@ -11,20 +12,8 @@ pub enum Head {
     Sum,
     /// A product.
     Mul,
-    /// The upper half of a product of signed numbers.
-    Mulh,
-    /// The upper half of a product of unsigned numbers.
-    Mulhu,
-    /// The upper half of a product of a signed and an unsigned number.
-    Mulhsu,
-    /// A quotient of signed numbers.
-    Div,
-    /// A quotient of unsigned numbers.
-    Udiv,
-    /// A remainder of signed numbers.
-    Rem,
-    /// A remainder of unsigned numbers.
-    Urem,
+    /// An operator of which nothing is known but its number.
+    Opaque(Opaque),
     /// Bits that are set in all parts.
     And,
     /// Bits that are set in some part.
@@ -73,19 +62,4 @@ pub enum Extension {
     Zero,
     /// With the sign: the signed number stays.
     Sign,
-}
-
-/// A comparison of two numbers; those that end in `u` are of unsigned numbers.
-#[derive(Clone, Copy)]
-pub enum Relation {
-    Eq,
-    Ne,
-    Lt,
-    Gt,
-    Le,
-    Ge,
-    Ltu,
-    Gtu,
-    Leu,
-    Geu,
 }

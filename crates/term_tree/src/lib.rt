@@ -17,7 +17,7 @@ mod order;
 mod term;
 
 pub use form::{are_of_width, is_narrower, is_same_width, is_well_formed};
-pub use head::{Extension, Head, Joint, Relation};
+pub use head::{Extension, Head, Joint};
 pub use measured::Measured;
 pub use nodes::is_small;
 pub use order::{compare, place};

@@ -15,7 +15,26 @@ use std::cmp::Ordering;
 pub fn place(head: Head) -> u8
     ensures { result ≡ head_index head }
 {
-    head as u8
+    match head {
+        Head::Reg => 0,
+        Head::Sym => 1,
+        Head::Sum => 2,
+        Head::Mul => 3,
+        Head::Opaque(operator) => 4 + operator.index(),
+        Head::And => 64,
+        Head::Ior => 65,
+        Head::Xor => 66,
+        Head::Shl => 67,
+        Head::Shr => 68,
+        Head::Sar => 69,
+        Head::Trunc => 70,
+        Head::Zext => 71,
+        Head::Sext => 72,
+        Head::Lt => 73,
+        Head::Ltu => 74,
+        Head::Eq => 75,
+        Head::Load => 76,
+    }
 }
 
 fn compare_names(a: &[u8], b: &[u8]) -> Ordering

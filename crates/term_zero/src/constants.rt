@@ -5,7 +5,7 @@ ghost use Rattle.term_tree.specs.View.{tree_of};
 ghost use Rattle.term_cuts.specs.term_mean.Meaning as meaning;
 ghost use Rattle.term_cuts.specs.term_mean.Shifts as spec;
 
-use bits64::{Width, div, lt, ltu, mulh, mulhsu, mulhu, rem, sar, shl, shr, udiv, urem};
+use bits64::{Width, lt, ltu, sar, shl, shr};
 use plain_data::{Items, Memory};
 use rtx_tree::Name;
 use std::alloc::Global;
@@ -49,13 +49,7 @@ pub fn binary_number(head: Head, w: Width, x: u64, y: u64) -> u64
     ensures { result ≡ spec.binary_number head w x y }
 {
     match head {
-        Head::Mulh => mulh(x, y, w),
-        Head::Mulhu => mulhu(x, y, w),
-        Head::Mulhsu => mulhsu(x, y, w),
-        Head::Div => div(x, y, w),
-        Head::Udiv => udiv(x, y, w),
-        Head::Rem => rem(x, y, w),
-        Head::Urem => urem(x, y, w),
+        Head::Opaque(operator) => operator.number(w, x, y),
         Head::Shl => shl(x, y, w),
         Head::Shr => shr(x, y, w),
         Head::Sar => sar(x, y, w),

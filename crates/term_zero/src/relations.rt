@@ -5,15 +5,16 @@ ghost use Rattle.term_cuts.specs.term_mean.Meaning.{Valuation, mean, truth};
 ghost use Rattle.term_tree.specs.declared.head.Head.TheVariants as heads;
 ghost use Rattle.term_cuts.specs.term_mean.Cuts.{one_part as one_part_spec};
 ghost use Rattle.term_cuts.specs.term_mean.Shifts.{two_parts as two_parts_spec};
+ghost use Rattle.bits64.specs.Operators.{holds};
 ghost use Rattle.term_cuts.specs.term_mean.Relations as spec;
 
 use crate::constants::two_parts;
-use bits64::Width;
+use bits64::{Relation, Width};
 use plain_data::{Items, Memory};
 use std::alloc::Global;
 use term_cuts::one_part;
 use term_sums::minus_one;
-use term_tree::{Atom, Head, Relation, Term};
+use term_tree::{Atom, Head, Term};
 
 fn difference(alloc: Global, w: Width, a: Term, b: Term) -> Result<Term, Memory>
     ensures { IfOk result (λ r. tree_of r ≡ spec.difference w (tree_of a) (tree_of b)) }
@@ -92,7 +93,7 @@ fn related(alloc: Global, relation: Relation, w: Width, a: Term, b: Term) -> Res
 pub fn relate(alloc: Global, relation: Relation, w: Width, a: Term, b: Term) -> Result<Term, Memory>
     ensures term { IfOk result (λ r. tree_of r ≡ spec.related relation w (tree_of a) (tree_of b)) }
     ensures meaning { (v : Valuation) →
-        IfOk result (λ r. mean v (tree_of r) ≡ truth (spec.holds relation w (mean v (tree_of a))
+        IfOk result (λ r. mean v (tree_of r) ≡ truth (holds relation w (mean v (tree_of a))
         (mean v (tree_of b)))) }
 {
     related(alloc, relation, w, a, b)

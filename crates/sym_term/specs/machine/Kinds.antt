@@ -3,8 +3,8 @@ use Rattle.std.specs.Prelude.{Bool, true, false}
 use Rattle.bits64.specs.declared.Width.{Width}
 use Rattle.term_tree.specs.declared.head.Head.{Head}
 use Rattle.term_tree.specs.declared.head.Head.TheVariants as heads
-use Rattle.term_tree.specs.declared.head.Relation.{Relation}
-use Rattle.term_tree.specs.declared.head.Relation.TheVariants as relations
+use Rattle.bits64.specs.declared.operator.Relation.{Relation}
+use Rattle.bits64.specs.declared.operator.Relation.TheVariants as relations
 use Rattle.term_tree.specs.declared.head.Extension.TheVariants.{Zero, Sign}
 use Rattle.term_tree.specs.Tree.{Tree}
 use Rattle.term_cuts.specs.term_mean.Extensions.{extended}
@@ -24,6 +24,7 @@ use Rattle.sym_term.specs.declared.maker.Test.TheVariants as test
 -- ---- heads over one part
 
 abbrev pub one_kind : Head → OneKind
+one_kind (heads.Opaque o) = one.Opaque o
 one_kind heads.Trunc = one.Ruled rule.Low
 one_kind heads.Zext = one.Ruled (rule.Wide Zero)
 one_kind heads.Sext = one.Ruled (rule.Wide Sign)
@@ -39,13 +40,7 @@ one_ruled rule.Zero w a = equals_zero w a
 -- ---- heads over two parts
 
 abbrev pub two_kind : Head → TwoKind
-two_kind heads.Mulh = two.Plain
-two_kind heads.Mulhu = two.Plain
-two_kind heads.Mulhsu = two.Plain
-two_kind heads.Div = two.Plain
-two_kind heads.Udiv = two.Plain
-two_kind heads.Rem = two.Plain
-two_kind heads.Urem = two.Plain
+two_kind (heads.Opaque o) = two.Opaque o
 two_kind heads.Shl = two.Shift
 two_kind heads.Shr = two.Shift
 two_kind heads.Sar = two.Shift

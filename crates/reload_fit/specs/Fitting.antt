@@ -4,11 +4,12 @@ use Rattle.std.specs.Prelude.{ℕ, ℤ, ◌+◌, ◌==◌, Bool, true, false, no
 use Rattle.std.specs.List.{list_any, find, filter_map, position_from}
 use Rattle.std.specs.Option.{option_map, option_map_or}
 use Rattle.rtx_tree.specs.declared.code.Code.{Code}
-use Rattle.rtx_tree.specs.declared.code.Code.TheVariants.{Mem, Plus}
+use Rattle.rtx_tree.specs.declared.code.Code.TheVariants.{Plus}
 use Rattle.rtx_tree.specs.declared.code.Mode.{Mode}
 use Rattle.rtx_tree.specs.declared.code.Mode.TheVariants.{DI}
 use Rattle.rtx_tree.specs.declared.tree.Rtx.{Rtx, out-Rtx}
 use Rattle.rtx_tree.specs.Tree.{mentions_reg}
+pub use Rattle.rtx_tree.specs.Tree.{is_memory_code}
 use Rattle.c_eval.specs.Value.{same_tree}
 use Rattle.md_text.specs.declared.constraint.Letter.{Letter}
 use Rattle.md_text.specs.declared.constraint.Letter.TheVariants as letter
@@ -96,10 +97,6 @@ asks_address _ = false
 abbrev pub has_address_letter : Option Alternative → Bool
 has_address_letter None = false
 has_address_letter (Some a) = list_any asks_address a.members
-
-abbrev pub is_memory_code : Code → Bool
-is_memory_code Mem = true
-is_memory_code _ = false
 
 abbrev pub is_memory : Rtx → Bool
 is_memory x = is_memory_code (out-Rtx x).code

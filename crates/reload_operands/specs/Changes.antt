@@ -7,6 +7,7 @@ use Rattle.rtx_tree.specs.declared.code.Code.{Code}
 use Rattle.rtx_tree.specs.declared.code.Code.TheVariants.{Mem, Set, Clobber}
 use Rattle.rtx_tree.specs.declared.tree.Rtx.{Rtx}
 use Rattle.rtx_tree.specs.Tree.{head_of, kids_of, mentions_reg}
+pub use Rattle.rtx_tree.specs.Tree.{is_memory_code}
 use Rattle.md_constr.specs.Inputs.{effects_of, changed_by}
 use Rattle.rtl_func.specs.Effects.{parallels_change_once}
 use Rattle.assign.specs.declared.home.HomeOf.{HomeOf}
@@ -54,10 +55,6 @@ address_of x = address_by (head_of x).code (kids_of x)
 abbrev pub changes_address : List HomeOf → Rtx → Rtx → Bool → Rtx → Rtx → Bool
 changes_address homes placed with_homes based x x_with_homes =
     option_map_or (changes_in is_hard with_homes) (address_of x_with_homes) false || (not based && option_map_or (changes_in (lives_in_slot homes) placed) (address_of x) false)
-
-abbrev pub is_memory_code : Code → Bool
-is_memory_code Mem = true
-is_memory_code _ = false
 
 -- an effect changes memory
 abbrev pub changes_memory : Rtx → Bool

@@ -22,10 +22,7 @@ pub record IsRead (bytes : List ℕ) (functions : List Function) : Type 0 where
 -- the bytes are the text of an input with these functions, which are well-formed and within the
 -- limits
 pub record IsInput (bytes : List ℕ) (functions : List Function) : Type 0 where
-  pub within : length bytes ≤ most_bytes
-  pub trees : List Tree
-  pub reads : ReadsAs bytes (Trees trees)
-  pub stand : functions_in trees ≡ stands functions
+  pub read : IsRead bytes functions
   pub admitted : first_refused functions ≡ None
 
 -- ---- what an input comes to

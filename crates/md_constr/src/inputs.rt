@@ -14,7 +14,7 @@ use std::slice;
 type Numbers = Items<u64>;
 
 fn push_taken_here(x: &Rtx, numbers: &mut Numbers) -> Result<(), Memory>
-    ensures { OnOk result (numbers.new ≡ numbers.old ++ spec.taken_here (head_of x.now).code
+    ensures { OnOk result (numbers.new ≡ numbers.old ++ spec.operand_here (head_of x.now).code
         (head_of x.now).number) }
 {
     match x.code {

@@ -17,7 +17,7 @@ fn is_numbered(x: &Rtx, number: u32) -> bool
 
 fn takes_here(x: &Rtx, number: u32) -> bool
     ensures { result ≡
-        spec.has_number number (inputs.taken_here (head_of x.now).code (head_of x.now).number) }
+        spec.has_number number (inputs.operand_here (head_of x.now).code (head_of x.now).number) }
 {
     match x.code {
         Code::MatchOperand | Code::MatchDup | Code::MatchScratch | Code::MatchOperator => {
@@ -139,7 +139,7 @@ fn is_set_by(effect: &Rtx, number: u32) -> bool
 }
 
 fn is_clobbered_by(effect: &Rtx, number: u32) -> bool
-    ensures { result ≡ spec.has_number number (spec.clobbered_by effect.now) }
+    ensures { result ≡ spec.has_number number (inputs.clobbered_by effect.now) }
 {
     match (effect.code, effect.kids.as_slice()) {
         (Code::Clobber, [target]) => is_target(target, number),
@@ -174,7 +174,7 @@ pub fn is_output(pattern: &Rtx, number: u32) -> bool
 
 fn any_effect_clobbers(effects: &[Rtx], number: u32) -> bool
     ensures { result ≡
-        list_any (λ effect. spec.has_number number (spec.clobbered_by effect)) effects.now }
+        list_any (λ effect. spec.has_number number (inputs.clobbered_by effect)) effects.now }
 {
     effects.iter().any(|effect| is_clobbered_by(effect, number))
 }

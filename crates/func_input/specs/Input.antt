@@ -86,6 +86,11 @@ RefusesWith refusal.ReadFault P = ⊥
 RefusesWith refusal.WriteFault P = ⊥
 RefusesWith e P = P (Err e)
 
+-- what is told is given; a refusal is the one that is told; want of memory is free
+abbrev pub Gives : {A : Type 0} → Result A Refusal → (Result A Refusal → Type 0) → Type 0
+Gives (Ok x) P = P (Ok x)
+Gives (Err e) P = RefusesWith e P
+
 -- a call that read the bytes as functions, or refused them
 abbrev pub Reads : List ℕ → Given → Type 0
 Reads bytes (Ok functions) = IsRead bytes functions

@@ -14,8 +14,6 @@ mod addresses;
 mod kinds;
 mod own;
 
-pub use addresses::{
-    far_address, frame_reference, is_any_constant, legitimate_address,
-};
+pub use addresses::{far_address, frame_reference, is_any_constant, legitimate_address};
 pub use kinds::{has_mode, is_far, is_memory, is_register, is_symbol};
 pub use own::Own;

@@ -73,7 +73,11 @@ pub fn extended_constant(alloc: Global, x: &mut Rtx) -> bool
 fn constant_of(x: &Rtx) -> Option<i64>
     ensures { result ≡ tests.constant_of x.now }
 {
-    if x.is_constant() { Some(x.number) } else { None }
+    if x.is_constant() {
+        Some(x.number)
+    } else {
+        None
+    }
 }
 
 /// The constant of a sum that has one second.

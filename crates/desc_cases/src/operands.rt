@@ -2,9 +2,7 @@
 use crate::parts::expression_in;
 use case_text::Told;
 use lisp_read::{Tree, atom, rtx_of_tree};
-use md_operand::{
-    Own, frame_reference, is_memory, is_register, is_symbol, legitimate_address,
-};
+use md_operand::{Own, frame_reference, is_memory, is_register, is_symbol, legitimate_address};
 use rtx_tree::Mode;
 use rv_regs::{Class, in_class};
 use std::alloc::Global;

@@ -18,7 +18,7 @@ use Rattle.pass_refusal.specs.equate.sym_insns.Run as insns
 use Rattle.pass_refusal.specs.equate.Verdict.{Same}
 use Rattle.pass_refusal.specs.equate.Side.{Lines, returns_by, is_one_return, is_one_return_line, both_return}
 use Rattle.pass_refusal.specs.equate.Equated.{judged, Equated}
-use Rattle.md_output.specs.Read.{IsReadAs, no_line}
+use Rattle.asm_out.specs.Filled.{IsReadAs, no_line}
 
 -- ---- one list of lines
 

@@ -9,6 +9,7 @@ use Rattle.md_forms.specs.declared.form.Entry.{Entry}
 use Rattle.md_desc.specs.declared.output.Chosen.{Chosen}
 use Rattle.md_output.specs.Filled.{filled, lines_of}
 use Rattle.md_output.specs.Read.{AreReadAs}
+pub use Rattle.md_output.specs.Read.{no_line, IsReadAs}
 use Rattle.rv_text.specs.declared.line.Line.{Line}
 
 abbrev pub template_in : Result Form Reason → Option Template

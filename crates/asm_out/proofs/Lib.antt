@@ -2,7 +2,6 @@ pub mod PartLaws
 pub mod PlacesLaws
 pub mod LineLaws
 pub mod PlaceOne
-pub mod ReadLaws
 pub mod Calls
 pub mod WrittenLaws
 pub mod SpelledLaws

@@ -88,4 +88,4 @@ chain_spelled forms number f _ _ _ _ small (AreWritten.label place i insns text 
     (Spells.label number i.uid text items small uid (chain_spelled forms number f (place + 1) insns text items small more))
 chain_spelled forms number f _ _ _ _ small (AreWritten.silent place i insns text items is more) = chain_spelled forms number f (place + 1) insns text items small more
 chain_spelled forms number f _ _ _ _ small (AreWritten.lines place i insns c ls text items are more) =
-    insn_spelled (text_of forms number i c) text ls items are.read (chain_spelled forms number f (place + 1) insns text items small more)
+    insn_spelled (text_of forms number i c) text ls items are.spelled (chain_spelled forms number f (place + 1) insns text items small more)

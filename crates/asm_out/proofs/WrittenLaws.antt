@@ -95,11 +95,9 @@ module _ (forms : List Entry) (number : ℕ) (f : Function) where
       put_first place i insns first rest piece (code_piece forms number i c lines) h both chain
       (AreWritten.lines place i insns c lines chain.body rest.items
       (record {
-        needs = tried.needs;
-        chosen = tried.chosen;
-        read = read_all (lines_of (text_of forms number i c)) lines tried.read (equated_acting (i ∷ []) number lines live is);
         live = live;
-        live_after = tried.live_after;
+        tried = tried;
+        spelled = read_all (lines_of (text_of forms number i c)) lines tried.read (equated_acting (i ∷ []) number lines live is);
         equated = is;
       })
       chain.are)

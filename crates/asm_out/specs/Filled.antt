@@ -1,7 +1,6 @@
 -- The lines that a form gives for an instruction: GCC Internals, "Output Template" and "Output
 -- Templates and Operand Substitution".
-use Rattle.std.specs.Prelude.{◌≡◌, ℕ, List, [], ◌∷◌, ◌++◌, Option, Some, None, Result, Ok, Err, slice_get, option_and_then}
-use Rattle.std.specs.List.{AllZip}
+use Rattle.std.specs.Prelude.{ℕ, List, [], ◌∷◌, ◌++◌, Option, Some, None, Result, Ok, Err, slice_get, option_and_then}
 use Rattle.rtx_tree.specs.declared.function.Insn.{Insn}
 use Rattle.md_text.specs.declared.template.Template.{Template}
 use Rattle.md_pattern.specs.declared.reason.Reason.{Reason}
@@ -9,8 +8,8 @@ use Rattle.md_forms.specs.declared.form.Form.{Form}
 use Rattle.md_forms.specs.declared.form.Entry.{Entry}
 use Rattle.md_desc.specs.declared.output.Chosen.{Chosen}
 use Rattle.md_output.specs.Filled.{filled, lines_of}
-use Rattle.rv_text.specs.Lines.{bare}
-use Rattle.rv_text.specs.Text.{IsTextOf}
+use Rattle.md_output.specs.Read.{AreReadAs}
+pub use Rattle.md_output.specs.Read.{no_line, IsReadAs}
 use Rattle.rv_text.specs.declared.line.Line.{Line}
 
 abbrev pub template_in : Result Form Reason → Option Template
@@ -35,15 +34,6 @@ text_of forms number i c = text_by (template_at forms c.form) number i c
 abbrev pub written : List ℕ → List ℕ
 written text = 9 ∷ (text ++ 10 ∷ [])
 
--- what stands for a text that is no line
-abbrev pub no_line : Line
-no_line = bare []
-
--- a text is that of a line, or it is no line's
-pub data IsReadAs (text : List ℕ) (line : Line) : Type 0 where
-  spelled : IsTextOf text line → IsReadAs text line
-  unread : ((other : Line) → IsTextOf text other → ⊥) → line ≡ no_line → IsReadAs text line
-
 -- each line of a text is read
 abbrev pub AreLinesOf : List ℕ → List Line → Type 0
-AreLinesOf text lines = AllZip IsReadAs (lines_of text) lines
+AreLinesOf text lines = AreReadAs (lines_of text) lines

@@ -9,28 +9,25 @@ use Rattle.rv_text.specs.Text.{IsTextOf}
 use Rattle.rv_text.specs.declared.line.Line.{Line}
 use Rattle.rv_text.specs.declared.line.CodeItem.{CodeItem}
 use Rattle.rv_text.specs.declared.line.CodeItem.TheVariants as item
-use Rattle.live.specs.Live.{AreLiveAfter}
 use Rattle.md_forms.specs.declared.form.Entry.{Entry}
 use Rattle.md_desc.specs.declared.output.Chosen.{Chosen}
-use Rattle.md_desc.specs.Recog.{IsChosen}
 use Rattle.md_output.specs.Filled.{lines_of}
-use Rattle.form_needs.specs.Needs.{is_label, is_silent, needs_form, output_facts}
+use Rattle.form_needs.specs.Needs.{is_label, is_silent}
 use Rattle.pass_refusal.specs.equate.Side.{Lines}
 use Rattle.pass_refusal.specs.equate.Equated.{Equated}
 use Rattle.asm_out.specs.declared.piece.Piece.{Piece}
 use Rattle.asm_out.specs.Frame.{framed, label_line}
 use Rattle.asm_out.specs.Filled.{text_of, written}
+use Rattle.asm_out.specs.Comes.{IsTried}
 
 -- the lines of an instruction at a place of a function: those of the filled template of the first
 -- form that counts, with the lowest enabled alternative that fits; and they are equated with the
 -- instruction over the registers that are live behind it
 pub record AreInsnLines (forms : List Entry) (number : ℕ) (f : Function) (place : ℕ) (i : Insn)
     (c : Chosen) (lines : List Line) : Type 0 where
-  pub needs : needs_form i ≡ true
-  pub chosen : IsChosen forms output_facts i.pattern c
-  pub read : AllZip IsTextOf (lines_of (text_of forms number i c)) lines
   pub live : List ℕ
-  pub live_after : AreLiveAfter f place live
+  pub tried : IsTried forms number f place i c lines live
+  pub spelled : AllZip IsTextOf (lines_of (text_of forms number i c)) lines
   pub equated : Equated (i ∷ []) (Lines number lines) live
 
 -- the text and the items of the rest of a function's chain from a place on

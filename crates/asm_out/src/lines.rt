@@ -3,7 +3,7 @@ ghost use Rattle.std.specs.Prelude.{◌≡◌, ◌++◌, OnOk, IfOk, length, map
 ghost use Rattle.std.specs.Option.{option_copied};
 ghost use Rattle.rv_text.specs.declared.line.CodeItem.TheVariants as item;
 ghost use Rattle.asm_out.specs.Filled as spec;
-ghost use Rattle.asm_out.specs.Filled.{IsReadAs, AreLinesOf};
+ghost use Rattle.asm_out.specs.Filled.{AreLinesOf};
 
 use crate::piece::Piece;
 use md_desc::{Chosen, Description};
@@ -12,7 +12,7 @@ use md_output::{fill, lines_of};
 use md_text::Template;
 use plain_data::{Items, Memory};
 use rtx_tree::{Insn, Name};
-use rv_text::{CodeItem, Line, LineParts, parse_line};
+use rv_text::{CodeItem, Line};
 use std::alloc::Global;
 
 fn template_in(entry: &Entry) -> Option<&Template>
@@ -60,26 +60,12 @@ pub fn text_of(
     Ok(text)
 }
 
-/// The line of a text, or one that is none of the table's.
-fn read_line(alloc: Global, text: &[u8]) -> Result<Line, Memory>
-    ensures { IfOk result (λ line. IsReadAs text.now line) }
-{
-    match parse_line(alloc, text)? {
-        Some(line) => Ok(line),
-        None => LineParts::bare(b"").to_line(alloc),
-    }
-}
-
 /// The lines of a text.
 pub fn read_lines(alloc: Global, text: &[u8]) -> Result<Items<Line>, Memory>
     ensures { IfOk result (λ lines. AreLinesOf text.now lines) }
 {
     let texts = lines_of(alloc, text)?;
-    let mut lines = Items::new(alloc);
-    for text in texts.as_slice() {
-        lines.push(read_line(alloc, text.bytes())?)?;
-    }
-    Ok(lines)
+    md_output::read_lines(alloc, texts.as_slice())
 }
 
 /// A text as it stands in the assembly.

@@ -11,7 +11,7 @@ use Rattle.rtx_tree.specs.declared.code.Mode.{Mode}
 use Rattle.rtx_tree.specs.declared.tree.Rtx.{Rtx, out-Rtx}
 use Rattle.rtx_tree.specs.declared.tree.Rtx.TheOpen.{Rtx-F}
 use Rattle.rtx_tree.specs.declared.tree.Rtx.TheFolds.{fold-Rtx}
-use Rattle.rtx_tree.specs.Code.{code_name, mode_name}
+pub use Rattle.rtx_tree.specs.Code.{same_code, same_mode}
 use Rattle.rtx_tree.specs.Operands.{operand_at}
 use Rattle.rtx_tree.specs.RegSet.{has_reg}
 use Rattle.c_cond.specs.c_words.declared.head.Call.{Call}
@@ -45,13 +45,6 @@ abbrev pub under_test : Rtx → Setting
 under_test x = setting test_facts (Some x ∷ []) (λ name tree mode. false)
 
 -- ---- accessors
-
--- codes and modes are the same where their names are
-abbrev pub same_code : Code → Code → Bool
-same_code a b = bytes_eq (code_name a) (code_name b)
-
-abbrev pub same_mode : Mode → Mode → Bool
-same_mode a b = bytes_eq (mode_name a) (mode_name b)
 
 abbrev pub is_a : Code → Rtx → Bool
 is_a c x = same_code (out-Rtx x).code c

@@ -2,9 +2,7 @@
 use crate::parts::expression_in;
 use case_text::Told;
 use lisp_read::{Tree, atom, rtx_of_tree};
-use md_operand::{
-    Own, frame_reference, is_constant, is_memory, is_register, is_symbol, legitimate_address,
-};
+use md_operand::{Own, frame_reference, is_memory, is_register, is_symbol, legitimate_address};
 use rtx_tree::Mode;
 use rv_regs::{Class, in_class};
 use std::alloc::Global;
@@ -63,7 +61,7 @@ fn tell_kind(alloc: Global, input: &[u8], told: &mut Told) {
     };
     show_kind(is_register(&x), "register", told);
     show_kind(is_memory(&x), "memory", told);
-    show_kind(is_constant(&x), "constant", told);
+    show_kind(x.is_constant(), "constant", told);
     show_kind(is_symbol(&x), "symbol", told);
 }
 

@@ -34,7 +34,7 @@ use Rattle.reload.specs.Reload.{FunctionReloads}
 use Rattle.reload.specs.declared.refusal.ReloadRefusal.{ReloadRefusal}
 use Rattle.reload.specs.declared.refusal.ReloadRefusal.TheVariants as reloading
 use Rattle.frame.specs.Framed.{FrameComes}
-use Rattle.func_input.specs.Input.{RefusesWith}
+pub use Rattle.func_input.specs.Input.{Gives}
 use Rattle.func_after.specs.declared.change.Change.{Change}
 use Rattle.func_after.specs.declared.made.Made.{Made}
 
@@ -183,10 +183,3 @@ IsBehind forms road f pass = PassesCome forms (up_to pass (passes_of road)) (as_
 -- what comes to output: the function behind all passes of a road
 abbrev pub AfterComes : List Entry → Road → Function → Answer → Type 0
 AfterComes forms road f = PassesCome forms (passes_of road) (as_read f)
-
--- ---- what a call has done
-
--- what is told is given; a refusal is the one that is told; want of memory is free
-abbrev pub Gives : Answer → (Answer → Type 0) → Type 0
-Gives (Ok m) P = P (Ok m)
-Gives (Err e) P = RefusesWith e P

@@ -52,13 +52,13 @@ read_comes last bytes functions o read comes = InputComesTo.read (Trees read.tre
 
 pub input_gives : (bytes : List ℕ) (functions : List Function) → IsInput bytes functions → InputGives bytes (Ok functions)
 input_gives bytes functions input =
-    InputComesTo.read (Trees input.trees) (Ok functions) input.within input.reads (ReadingComesTo.inside input.trees functions (Ok functions) input.stand (FunctionsComeTo.admitted (Ok functions) input.admitted refl))
+    read_comes AreThemselves bytes functions (Ok functions) input.read (FunctionsComeTo.admitted (Ok functions) input.admitted refl)
 
 functions_of : (bytes : List ℕ) (trees : List Tree) (functions found : List Function) (o : Result (List Function) Refusal) → length bytes ≤ most_bytes → ReadsAs bytes (Trees trees) → functions_in trees ≡ stands found → o ≡ Ok functions → FunctionsGive found o → IsInput bytes functions
 functions_of bytes trees functions found _ within reads stand is (FunctionsComeTo.refused e first) = absurd (let nothing : ⊥ = cc in nothing)
 functions_of bytes trees functions found _ within reads stand is (FunctionsComeTo.admitted o none own) =
     let same : found ≡ functions = same_ok found functions (sym own ∙ is) in
-    record { within = within; trees = trees; reads = reads; stand = stand ∙ ap stands same; admitted = ap first_refused (sym same) ∙ none }
+    record { read = record { within = within; trees = trees; reads = reads; stand = stand ∙ ap stands same }; admitted = ap first_refused (sym same) ∙ none }
   where
     same_ok : (a b : List Function) → ◌≡◌ {A = Result (List Function) Refusal} (Ok a) (Ok b) → a ≡ b
     same_ok a b is = cc

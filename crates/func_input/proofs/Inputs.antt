@@ -20,22 +20,22 @@ pub admitted_last : {A : Type 0} (last : Last A) (functions : List Function) (o 
 admitted_last last functions _ none (FunctionsComeTo.refused e is) = apart e _ is none
 admitted_last last functions _ none (FunctionsComeTo.admitted o none' own) = own
 
-trees_last : {A : Type 0} (last : Last A) (bytes : List ℕ) (functions : List Function) (reading : Reading) (o : Result A Refusal) → (input : IsInput bytes functions) → reading ≡ Trees input.trees → ReadingComesTo last reading o → last functions o
+trees_last : {A : Type 0} (last : Last A) (bytes : List ℕ) (functions : List Function) (reading : Reading) (o : Result A Refusal) → (input : IsInput bytes functions) → reading ≡ Trees input.read.trees → ReadingComesTo last reading o → last functions o
 trees_last last bytes functions _ _ input is (ReadingComesTo.syntax place) = absurd (let nothing : ⊥ = cc in nothing)
 trees_last last bytes functions _ _ input is (ReadingComesTo.depth place) = absurd (let nothing : ⊥ = cc in nothing)
 trees_last last bytes functions _ _ input is (ReadingComesTo.outside trees place name out) =
-    let same : trees ≡ input.trees = cc in
-    not_both trees place name functions out (ap functions_in same ∙ input.stand)
+    let same : trees ≡ input.read.trees = cc in
+    not_both trees place name functions out (ap functions_in same ∙ input.read.stand)
 trees_last last bytes functions _ _ input is (ReadingComesTo.inside trees found o stand comes) =
-    let same : trees ≡ input.trees = cc in
-    let found_is : found ≡ functions = same_functions found functions (sym stand ∙ ap functions_in same ∙ input.stand) in
+    let same : trees ≡ input.read.trees = cc in
+    let found_is : found ≡ functions = same_functions found functions (sym stand ∙ ap functions_in same ∙ input.read.stand) in
     admitted_last last functions o input.admitted (subst (λ fs. FunctionsComeTo last fs o) found_is comes)
 
 -- an input comes to what the last step gives for its functions
 pub input_last : {A : Type 0} (last : Last A) (bytes : List ℕ) (functions : List Function) (o : Result A Refusal) → IsInput bytes functions → InputComesTo last bytes o → last functions o
-input_last last bytes functions _ input (InputComesTo.too_long long) = absurd (let within = input.within in omega (arith, long, within))
+input_last last bytes functions _ input (InputComesTo.too_long long) = absurd (let within = input.read.within in omega (arith, long, within))
 input_last last bytes functions _ input (InputComesTo.read reading o within reads comes) =
-    trees_last last bytes functions reading o input (one_reading bytes reading (Trees input.trees) reads input.reads) comes
+    trees_last last bytes functions reading o input (one_reading bytes reading (Trees input.read.trees) reads input.read.reads) comes
 
 -- ---- no refusal
 
@@ -49,7 +49,7 @@ functions_reached : {A : Type 0} (last : Last A) (bytes : List ℕ) (x : A) (tre
     FunctionsComeTo last functions o → Reached last bytes o
 functions_reached last bytes x trees functions _ within reads stand is (FunctionsComeTo.refused e first) = absurd (let nothing : ⊥ = cc in nothing)
 functions_reached last bytes x trees functions _ within reads stand is (FunctionsComeTo.admitted o none own) =
-    record { functions = functions; input = record { within = within; trees = trees; reads = reads; stand = stand; admitted = none }; own = own }
+    record { functions = functions; input = record { read = record { within = within; trees = trees; reads = reads; stand = stand }; admitted = none }; own = own }
 
 reading_reached : {A : Type 0} (last : Last A) (bytes : List ℕ) (x : A) (reading : Reading) (o : Result A Refusal) → length bytes ≤ most_bytes → ReadsAs bytes reading → o ≡ Ok x → ReadingComesTo last reading o → Reached last bytes o
 reading_reached last bytes x _ _ within reads is (ReadingComesTo.syntax place) = absurd (let nothing : ⊥ = cc in nothing)

@@ -22,10 +22,7 @@ pub record IsRead (bytes : List ℕ) (functions : List Function) : Type 0 where
 -- the bytes are the text of an input with these functions, which are well-formed and within the
 -- limits
 pub record IsInput (bytes : List ℕ) (functions : List Function) : Type 0 where
-  pub within : length bytes ≤ most_bytes
-  pub trees : List Tree
-  pub reads : ReadsAs bytes (Trees trees)
-  pub stand : functions_in trees ≡ stands functions
+  pub read : IsRead bytes functions
   pub admitted : first_refused functions ≡ None
 
 -- ---- what an input comes to
@@ -88,6 +85,11 @@ RefusesWith refusal.Usage P = ⊥
 RefusesWith refusal.ReadFault P = ⊥
 RefusesWith refusal.WriteFault P = ⊥
 RefusesWith e P = P (Err e)
+
+-- what is told is given; a refusal is the one that is told; want of memory is free
+abbrev pub Gives : {A : Type 0} → Result A Refusal → (Result A Refusal → Type 0) → Type 0
+Gives (Ok x) P = P (Ok x)
+Gives (Err e) P = RefusesWith e P
 
 -- a call that read the bytes as functions, or refused them
 abbrev pub Reads : List ℕ → Given → Type 0

@@ -83,7 +83,7 @@ module _ (forms : List Entry) where
       let lines = is_assembly forms Usual functions a has.own in
       record {
         functions = functions;
-        input = record { within = reads.within; trees = reads.trees; reads = reads.reads; stand = reads.stand; admitted = has.admitted };
+        input = record { read = reads; admitted = has.admitted };
         assembly = a;
         is_assembly = lines;
         are = are_parts forms Usual 0 functions a lines;
@@ -110,9 +110,9 @@ module _ (forms : List Entry) where
 
   -- a function of an input that has an assembly has its code
   pub code_has : (bytes name : List ℕ) (functions : List Function) (x : Assembly) (a : Answer) → IsInput bytes functions → AssemblyComes forms Usual functions (Ok x) → has_named functions name ≡ true → CodeComes forms bytes name a → (c : Coded) × (a ≡ Ok c)
-  code_has bytes name functions x _ input own named (CodeComes.unread e never comes) = absurd (never functions (record { within = input.within; trees = input.trees; reads = input.reads; stand = input.stand }))
+  code_has bytes name functions x _ input own named (CodeComes.unread e never comes) = absurd (never functions input.read)
   code_has bytes name functions x _ input own named (CodeComes.read functions' a reads comes) =
-      let same : functions' ≡ functions = one_read bytes functions' functions reads (record { within = input.within; trees = input.trees; reads = input.reads; stand = input.stand }) in
+      let same : functions' ≡ functions = one_read bytes functions' functions reads input.read in
       name_has functions name x a input.admitted own named (subst (λ fs. NameComes forms fs name a) same comes)
 
   -- ---- from what the calls gave

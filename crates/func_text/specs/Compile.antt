@@ -6,6 +6,7 @@ use Rattle.pass_name.specs.declared.road.Road.{Road}
 use Rattle.run_refusal.specs.declared.refusal.Refusal.{Refusal}
 use Rattle.md_forms.specs.declared.form.Entry.{Entry}
 use Rattle.func_input.specs.Input.{FunctionsComeTo, InputComesTo, RefusesWith}
+pub use Rattle.func_input.specs.Input.{Gives}
 use Rattle.func_input.specs.Outcome as texts
 use Rattle.func_text.specs.declared.assembly.Assembly.{Assembly}
 use Rattle.func_text.specs.declared.summary.Summary.{Summary}
@@ -28,11 +29,6 @@ text_told (Err e) = Err e
 -- what is told of the bytes of an input
 abbrev pub TextComes : List Entry → Road → List ℕ → texts.Outcome → Type 0
 TextComes forms road bytes told = (o : Outcome) × InputComes forms road bytes o × (told ≡ text_told o)
-
--- what is told is given; a refusal is the one that is told; want of memory is free
-abbrev pub Gives : Outcome → (Outcome → Type 0) → Type 0
-Gives (Ok assembly) P = P (Ok assembly)
-Gives (Err e) P = RefusesWith e P
 
 -- A call appended the text of an assembly that is told to an output, and gave its summary; a refusal
 -- is the one that is told; want of memory is free.

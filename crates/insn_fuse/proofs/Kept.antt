@@ -11,13 +11,13 @@ use Rattle.rtx_tree.specs.declared.class.Class.{Class}
 use Rattle.rtx_tree.specs.declared.class.Class.TheVariants as class
 use Rattle.rtx_tree.specs.declared.function.ArgUse.{ArgUse}
 use Rattle.rtx_tree.specs.declared.tree.Rtx.{Rtx}
-use Rattle.rtx_tree.specs.Code.{class_of_code, mode_name}
-use Rattle.rtx_tree.specs.Tree.{RtxHead, head_of, kids_of, tree_of, node_of, const_of, changed_at, replaced_at}
+use Rattle.rtx_tree.specs.Code.{class_of_code, mode_name, is_comparison_class}
+use Rattle.rtx_tree.specs.Tree.{RtxHead, head_of, kids_of, tree_of, node_of, const_of, changed_at, replaced_at, is_constant}
 use Rattle.rtx_tree.proofs.Trees.{head_of-tree, kids_of-tree}
 use Rattle.rtl_func.specs.Modes.{register_by}
 use Rattle.rtl_func.specs.Calls.{is_hard_argument, has_argument, use_is_argument, argument_registers}
 use Rattle.rtl_func.proofs.AllPass.{all_pass, pass_out, itself, within}
-use Rattle.rtx_simple.specs.Simple.{is_constant, is_zero, extended, where_constant, extended_constant, terms_of, added, with_added, joined_constants, where_zero, without_zero, is_comparison_class, tested, compared_by, compared_with_zero, lowpart_of, where_mode, extension_cut, is_exchangeable, exchanged_by, constant_second, once, settled, simplified}
+use Rattle.rtx_simple.specs.Simple.{is_zero, extended, where_constant, extended_constant, terms_of, added, with_added, joined_constants, where_zero, without_zero, tested, compared_by, compared_with_zero, lowpart_of, where_mode, extension_cut, is_exchangeable, exchanged_by, constant_second, once, settled, simplified}
 use Rattle.rtx_simple.proofs.Comparisons.{is_comparison}
 use Rattle.rtx_simple.proofs.Front.{simplified_out}
 use Rattle.rtx_simple.proofs.Hoisted.{extended_part, terms_part, lowpart_part, added_part}

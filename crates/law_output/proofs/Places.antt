@@ -41,13 +41,13 @@ module _ (forms : List Entry) (number : ℕ) (f : Function) (ready : AreWritable
       let back = both_returning number i lines returns in
       subst (λ l. AreItemsAt number f place i (map item.Code l)) (sym back.lines_are) (items.returning back.line back.is_jump back.is_return back.returns)
   lines_by place i lines c stands are false goes_on =
-      let hard = (one_is place i stands).formed are.needs in
+      let hard = (one_is place i stands).formed are.tried.needs in
       let alike = verdict_same (i ∷ []) (Lines number lines) are.live are.equated goes_on in
       items.window lines (record {
         is_none = hard.is_none;
         last = runs_last number lines alike.second alike.runs_second;
         hard = hard.hard;
-        same = few_do (i ∷ []) number lines are.live are.equated goes_on (IsLiveBehind f place) (compared f place are.live are.live_after);
+        same = few_do (i ∷ []) number lines are.live are.equated goes_on (IsLiveBehind f place) (compared f place are.live are.tried.live_after);
       })
 
   -- ---- the others

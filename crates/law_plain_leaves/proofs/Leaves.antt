@@ -10,7 +10,8 @@ use Rattle.rtx_tree.specs.declared.class.Class.TheVariants as class
 use Rattle.rtx_tree.specs.declared.tree.Rtx.{Rtx, out-Rtx}
 use Rattle.rtl_func.specs.Shapes as shapes
 use Rattle.rtl_func.specs.Shapes.{number_at, is_shaped, is_nameless, fits_row}
-use Rattle.md_operand.specs.Operand.{same_mode, accepts_mode, has_mode, is_register_by, is_register, is_constant_code, is_constant, is_symbol_code, is_symbol}
+use Rattle.md_operand.specs.Operand.{accepts_mode, has_mode, is_register_by, is_register, is_constant_code, is_constant, is_symbol_code, is_symbol}
+use Rattle.rtx_tree.specs.Code.{same_mode}
 use Rattle.rtx_open.proofs.Expressions.{Written, node, none, rtx}
 use Rattle.law_plain_leaves.specs.Machine.{is_machine_by, is_machine}
 use Rattle.law_plain_leaves.proofs.Shaped.{tree_is, two_of, row_is}

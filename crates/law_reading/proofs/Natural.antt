@@ -88,4 +88,4 @@ trees_natural trees functions read index f at place i there = each_read IsNatura
 pub input_natural : (bytes : List ℕ) (functions : List Function) → IsInput bytes functions →
     (index : ℕ) (f : Function) → slice_get functions index ≡ Some f → (place : ℕ) (i : Insn) → slice_get f.insns place ≡ Some i →
     all_natural i.pattern ≡ true
-input_natural bytes functions input index f at place i there = trees_natural input.trees functions input.stand index f at place i there
+input_natural bytes functions input index f at place i there = trees_natural input.read.trees functions input.read.stand index f at place i there

@@ -13,14 +13,14 @@ use Rattle.law_operands_fetched.specs.rtx_tree.declared.tree.Rtx.{Rtx}
 use Rattle.law_operands_fetched.specs.rtl_func.Shapes.{is_effect, is_shaped}
 use Rattle.law_operands_fetched.proofs.rtl_func.AllPass.{all_pass}
 use Rattle.law_operands_fetched.specs.rtl_step.Regs.{Regs}
-use Rattle.law_operands_fetched.specs.md_constr.Inputs.{effects_by, effects_of, changed_here, changed_whole, changed_at_by, changed_at}
+use Rattle.law_operands_fetched.specs.md_constr.Inputs.{effects_by, effects_of, operand_here, changed_whole, changed_at_by, changed_at, clobbered_by_parts, clobbered_by}
 use Rattle.law_operands_fetched.specs.md_match.Pattern.{Ops, role_of, operand_numbered, instantiated}
 use Rattle.law_operands_fetched.specs.md_match.declared.role.Role.TheVariants.{Operand, Operator, Itself}
 use Rattle.law_operands_fetched.specs.assign.declared.home.HomeOf.{HomeOf}
 use Rattle.law_operands_fetched.specs.assign.declared.places.Layout.{Layout}
 use Rattle.law_operands_fetched.specs.reload_homes.Homes.{homed, register_numbered, register_by, register_at}
 use Rattle.law_operands_fetched.proofs.reload_operands.NumberLaws.{has_in_each}
-use Rattle.law_operands_fetched.specs.reload_operands.Directions.{has_number, is_operator_code, clobbered_by_parts, clobbered_by, is_hidden}
+use Rattle.law_operands_fetched.specs.reload_operands.Directions.{has_number, is_operator_code, is_hidden}
 use Rattle.law_operands_fetched.specs.reload_choice.Sound.{IsSoundPlan}
 use Rattle.law_operands_fetched.specs.reload_choice.declared.given.Plan.{Plan}
 use Rattle.law_operands_fetched.specs.law_operands_replaced.Places.{AtOnePlace, first, later, StandsFor, itself, part}
@@ -34,7 +34,7 @@ use Rattle.law_reload_moves.proofs.NewsLaws.{none_moved}
 use Rattle.law_reload_moves.proofs.TakenPlaces.{any_place, itself_number, IsEffectOf, source_read, target_read, operator_hidden}
 use Rattle.law_operands_fetched.proofs.law_operands_replaced.WholeTurns.{IsWholeBeside}
 
-operand_changed : (c : Code) (k : ℕ) → role_of c ≡ Operand → has_number k (changed_here c (pos k)) ≡ true
+operand_changed : (c : Code) (k : ℕ) → role_of c ≡ Operand → has_number k (operand_here c (pos k)) ≡ true
 operand_changed code.MatchOperand k is = itself_number k
 operand_changed code.MatchDup k is = itself_number k
 operand_changed code.MatchScratch k is = itself_number k
@@ -49,7 +49,7 @@ changed_itself _ a kids is = absurd (let no : ⊥ = cc in no)
 -- an operand that is what an effect changes
 pub changed_has : (a : Rtx) (k : ℕ) → role_of (head_of a).code ≡ Operand → (head_of a).number ≡ pos k → has_number k (changed_at a) ≡ true
 changed_has a k is same = ap (has_number k) (changed_itself (head_of a).code a (kids_of a) is) ∙
-    ap (λ (n : ℤ). has_number k (changed_here (head_of a).code n)) same ∙ operand_changed (head_of a).code k is
+    ap (λ (n : ℤ). has_number k (operand_here (head_of a).code n)) same ∙ operand_changed (head_of a).code k is
 
 operator_code : (c : Code) → role_of c ≡ Operator → is_operator_code c ≡ true
 operator_code code.MatchOperator is = refl

@@ -13,7 +13,7 @@ use Rattle.law_operands_fetched.specs.rtx_tree.declared.code.Code.TheVariants as
 use Rattle.law_operands_fetched.specs.rtx_tree.declared.tree.Rtx.{Rtx}
 use Rattle.law_operands_fetched.proofs.rtl_func.AllPass as nodes
 use Rattle.law_operands_fetched.proofs.rtl_func.AllPass.{all_pass}
-use Rattle.law_operands_fetched.specs.md_constr.Inputs.{taken_here, taken_in}
+use Rattle.law_operands_fetched.specs.md_constr.Inputs.{operand_here, taken_in}
 use Rattle.law_operands_fetched.proofs.md_match.Instantiated.{made_operand}
 use Rattle.law_operands_fetched.proofs.md_match.Placeholders.{placeholders_out}
 use Rattle.law_operands_fetched.specs.md_match.Match.{IsAsked, IsAskedAs}
@@ -81,7 +81,7 @@ no_operator_of k q = not (is_operator_of k q)
 abbrev pub IsPlaceOf : ℕ → Rtx → Type 0
 IsPlaceOf k q = ((role_of (head_of q).code ≡ Operand) × ((head_of q).number ≡ pos k)) ⊎ (is_operator_of k q ≡ true)
 
-pub place_of_taken : (c : Code) (k : ℕ) (q : Rtx) → (head_of q).code ≡ c → has_number k (taken_here c (head_of q).number) ≡ true → (head_of q).number ≡ pos k → IsPlaceOf k q
+pub place_of_taken : (c : Code) (k : ℕ) (q : Rtx) → (head_of q).code ≡ c → has_number k (operand_here c (head_of q).number) ≡ true → (head_of q).number ≡ pos k → IsPlaceOf k q
 place_of_taken code.MatchOperand k q is has same = inl (ap role_of is, same)
 place_of_taken code.MatchDup k q is has same = inl (ap role_of is, same)
 place_of_taken code.MatchScratch k q is has same = inl (ap role_of is, same)
@@ -118,7 +118,7 @@ module _ (homes : List HomeOf) (layout : Layout) (found : Ops) where
 
   -- what a pattern takes itself
   pub taken_itself : (c : Code) (p w : Rtx) (k : ℕ) → (head_of p).code ≡ c → instantiated p found ≡ Some w → AllByRecursion (IsAsked found) (placeholders p) →
-      has_number k (taken_here c (head_of p).number) ≡ true → (operand_numbered found (head_of p).number ≡ Some w) × ((head_of p).number ≡ pos k)
+      has_number k (operand_here c (head_of p).number) ≡ true → (operand_numbered found (head_of p).number ≡ Some w) × ((head_of p).number ≡ pos k)
   taken_itself code.MatchOperand p w k is made asked has =
       let o = sym (made_operand p found (ap role_of is)) ∙ made in (o, there_number (head_of p).number k w o has)
   taken_itself code.MatchDup p w k is made asked has =
@@ -172,20 +172,20 @@ module _ (homes : List HomeOf) (layout : Layout) (found : Ops) where
   -- what is taken by what stands for a register alone
   pub low_taken : (q inner : Rtx) (k : ℕ) → instantiated q found ≡ Some inner → kids_of inner ≡ [] → AllByRecursion (IsAsked found) (placeholders q) →
       all_pass is_leaf q ≡ true → has_number k (taken_in q) ≡ true → inside_low k q true inner ≡ true
-  low_taken q inner k made none asked leaf has = elim (or_cases (has_number k (taken_here (head_of q).code (head_of q).number)) _ (sym (takes_out k q) ∙ has)) [
+  low_taken q inner k made none asked leaf has = elim (or_cases (has_number k (operand_here (head_of q).code (head_of q).number)) _ (sym (takes_out k q) ∙ has)) [
     | inl mine ↦
         let t = taken_itself (head_of q).code q inner k refl made asked mine in by (role_of (head_of q).code) refl mine t.1
     | inr others ↦ absurd (let no : false ≡ true = sym (ap (list_any (λ part. has_number k (taken_in part))) (no_parts q inner made none leaf)) ∙ others in let never : ⊥ = cc in never)
   ]
     where
-      itself_none : (c : Code) (n : ℤ) → role_of c ≡ Itself → has_number k (taken_here c n) ≡ true → ⊥
+      itself_none : (c : Code) (n : ℤ) → role_of c ≡ Itself → has_number k (operand_here c n) ≡ true → ⊥
       itself_none code.MatchOperand n is has = let no : ⊥ = cc in no
       itself_none code.MatchDup n is has = let no : ⊥ = cc in no
       itself_none code.MatchScratch n is has = let no : ⊥ = cc in no
       itself_none code.MatchOperator n is has = let no : ⊥ = cc in no
       itself_none _ n is has = let no : ⊥ = cc in no
 
-      by : (r : Role) → role_of (head_of q).code ≡ r → has_number k (taken_here (head_of q).code (head_of q).number) ≡ true → (head_of q).number ≡ pos k → inside_low k q true inner ≡ true
+      by : (r : Role) → role_of (head_of q).code ≡ r → has_number k (operand_here (head_of q).code (head_of q).number) ≡ true → (head_of q).number ≡ pos k → inside_low k q true inner ≡ true
       by Operand is mine same = inside_operand k q true inner is ∙ is_at k (head_of q).number same
       by Operator is mine same = inside_operator k q true inner is ∙ or_left (is_inside k (head_of q).number true) _ (is_at k (head_of q).number same)
       by Itself is mine same = absurd (itself_none (head_of q).code (head_of q).number is mine)

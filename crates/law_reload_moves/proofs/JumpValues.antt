@@ -24,7 +24,7 @@ use Rattle.law_operands_fetched.specs.rtl_step.Jump.{way_of, jump_of}
 use Rattle.law_operands_fetched.specs.rtl_step.Regs.{Regs}
 use Rattle.law_operands_fetched.specs.rtl_step.Value.{value_of}
 use Rattle.law_operands_fetched.specs.rtl_step.declared.jump.Way.{Way}
-use Rattle.law_operands_fetched.specs.md_constr.Inputs.{taken_here, taken_in, taken_at, taken_by_parts, taken_by}
+use Rattle.law_operands_fetched.specs.md_constr.Inputs.{operand_here, taken_in, taken_at, taken_by_parts, taken_by}
 use Rattle.law_operands_fetched.specs.md_constr.Inputs as inputs
 use Rattle.law_operands_fetched.specs.md_match.Pattern.{Ops, role_of}
 use Rattle.law_operands_fetched.specs.md_match.declared.role.Role.TheVariants.{Operand, Itself}
@@ -291,7 +291,7 @@ module _ (homes : List HomeOf) (layout : Layout) (found : Ops) (symbols : List S
           let kids : kids_of pattern ≡ [] = short (kids_of pattern) (h.1 ∙ ap length bare) in
           let taken : has_number k (taken_in pattern) ≡ true = sym (ap (λ c. has_number k (taken_by_parts c pattern (kids_of pattern))) p_return) ∙ has in
           let e : false ≡ true =
-          sym (takes_out k pattern ∙ ap (λ c. has_number k (taken_here c (head_of pattern).number) || list_any (λ part. has_number k (taken_in part)) (kids_of pattern)) p_return ∙
+          sym (takes_out k pattern ∙ ap (λ c. has_number k (operand_here c (head_of pattern).number) || list_any (λ part. has_number k (taken_in part)) (kids_of pattern)) p_return ∙
           ap (list_any (λ part. has_number k (taken_in part))) kids) ∙ taken in
           let no : ⊥ = cc in no
         where

@@ -24,7 +24,8 @@ use Rattle.law_operands_fetched.specs.sym_insns.Shape.{is_natural, all_natural}
 use Rattle.law_operands_fetched.proofs.law_frame.law_window_replaced.Trees.{natural_here, natural_kids}
 use Rattle.law_operands_fetched.specs.reload_homes.Homes as places
 use Rattle.law_operands_fetched.specs.reload_homes.Homes.{register_at}
-use Rattle.law_operands_fetched.specs.reload_operands.Changes.{target_by, changed_register, is_hard}
+use Rattle.law_operands_fetched.specs.reload_operands.Changes.{changed_register, is_hard}
+use Rattle.law_operands_fetched.specs.md_constr.Inputs.{target_by}
 use Rattle.law_operands_fetched.proofs.law_operands_replaced.ElementTurns.{effect_code}
 use Rattle.law_reload_moves.proofs.RowsThere.{effects_front}
 use Rattle.law_operands_fetched.proofs.law_operands_replaced.SetWidth.{set_width}

@@ -18,7 +18,7 @@ use Rattle.law_operands_fetched.proofs.rtl_func.AllPass.{all_pass}
 use Rattle.law_operands_fetched.specs.rtl_step.Regs.{Regs}
 use Rattle.law_operands_fetched.specs.rtl_step.declared.effect.Effect.{Effect}
 use Rattle.law_operands_fetched.specs.md_constr.Inputs as inputs
-use Rattle.law_operands_fetched.specs.md_constr.Inputs.{changed_here, changed_whole, changed_at_by, changed_at, set_by_parts, set_by}
+use Rattle.law_operands_fetched.specs.md_constr.Inputs.{operand_here, changed_whole, changed_at_by, changed_at, set_by_parts, set_by}
 use Rattle.law_operands_fetched.specs.md_match.Pattern.{Ops, role_of, instantiated}
 use Rattle.law_operands_fetched.specs.md_match.declared.role.Role.{Role}
 use Rattle.law_operands_fetched.specs.md_match.declared.role.Role.TheVariants.{Operand, Operator, Itself}
@@ -70,10 +70,10 @@ low_there inner t' found n made has = by (head_of inner).code refl (ap (λ b. b)
         inside_operator n inner true t' r ∙ ap (λ b. b || any_inside (map (inside_low n) (kids_of inner)) true (kids_of t'))
         (equal (number Operator r (λ e. let no : ⊥ = cc in no) has))
 
-    here : (c : Code) → (head_of inner).code ≡ c → has_number n (changed_here (head_of inner).code (head_of inner).number) ≡ true → has_number n (changed_here c (head_of inner).number) ≡ true
-    here c is has = sym (ap (λ c. has_number n (changed_here c (head_of inner).number)) is) ∙ has
+    here : (c : Code) → (head_of inner).code ≡ c → has_number n (operand_here (head_of inner).code (head_of inner).number) ≡ true → has_number n (operand_here c (head_of inner).number) ≡ true
+    here c is has = sym (ap (λ c. has_number n (operand_here c (head_of inner).number)) is) ∙ has
 
-    by : (c : Code) → (head_of inner).code ≡ c → has_number n (changed_here (head_of inner).code (head_of inner).number) ≡ true → inside_low n inner true t' ≡ true
+    by : (c : Code) → (head_of inner).code ≡ c → has_number n (operand_here (head_of inner).code (head_of inner).number) ≡ true → inside_low n inner true t' ≡ true
     by code.MatchOperand is has = operand_case code.MatchOperand is refl (here code.MatchOperand is has)
     by code.MatchDup is has = operand_case code.MatchDup is refl (here code.MatchDup is has)
     by code.MatchScratch is has = operand_case code.MatchScratch is refl (here code.MatchScratch is has)
@@ -101,8 +101,8 @@ target_is a t found n made has apart clear = by (head_of a).code (kids_of a) ref
     operand_case c is role has =
         let r = ap role_of is ∙ role in (r, number_there found (head_of a).number n t (sym (made_operand a found r) ∙ made) has)
 
-    here : (c : Code) → (head_of a).code ≡ c → has_number n (changed_here (head_of a).code (head_of a).number) ≡ true → has_number n (changed_here c (head_of a).number) ≡ true
-    here c is has = sym (ap (λ c. has_number n (changed_here c (head_of a).number)) is) ∙ has
+    here : (c : Code) → (head_of a).code ≡ c → has_number n (operand_here (head_of a).code (head_of a).number) ≡ true → has_number n (operand_here c (head_of a).number) ≡ true
+    here c is has = sym (ap (λ c. has_number n (operand_here c (head_of a).number)) is) ∙ has
 
     operator_case : (head_of a).code ≡ code.MatchOperator → has_number n (cast_unsigned w64 (head_of a).number ∷ []) ≡ true → IsPlace a n
     operator_case is has =

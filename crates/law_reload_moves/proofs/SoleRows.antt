@@ -21,7 +21,7 @@ use Rattle.law_operands_fetched.specs.rtl_step.Value.{value_of}
 use Rattle.law_operands_fetched.specs.rtl_step.declared.effect.Effect.{Effect}
 use Rattle.law_operands_fetched.specs.bits64.declared.Width.TheVariants.{W64}
 use Rattle.law_operands_fetched.specs.md_constr.Inputs as inputs
-use Rattle.law_operands_fetched.specs.md_constr.Inputs.{changed_here, changed_at_by, changed_at, changed_by_parts, changed_by}
+use Rattle.law_operands_fetched.specs.md_constr.Inputs.{operand_here, changed_at_by, changed_at, changed_by_parts, changed_by, target_by}
 use Rattle.law_operands_fetched.specs.md_match.Pattern.{Ops, role_of, operand_numbered, operand_of, instantiated}
 use Rattle.law_operands_fetched.specs.md_match.declared.role.Role.TheVariants.{Operand, Operator}
 use Rattle.law_operands_fetched.proofs.md_match.Instantiated.{made_operand, made_no_operator}
@@ -31,7 +31,7 @@ use Rattle.law_operands_fetched.specs.assign.declared.places.Layout.{Layout}
 use Rattle.law_operands_fetched.specs.reload_homes.Homes.{home_of, slot_offset, slot_address, homed}
 use Rattle.law_operands_fetched.proofs.rtl_func.AllPass as nodes
 use Rattle.law_operands_fetched.proofs.rtl_func.AllPass.{all_pass}
-use Rattle.law_operands_fetched.specs.reload_operands.Changes.{target_by, is_memory_code, changes_memory, is_place_of, is_other_memory, any_other_memory}
+use Rattle.law_operands_fetched.specs.reload_operands.Changes.{is_memory_code, changes_memory, is_place_of, is_other_memory, any_other_memory}
 use Rattle.law_operands_fetched.specs.reload_operands.Directions.{has_number}
 use Rattle.law_operands_fetched.specs.reload_operands.declared.operand.Operand.{Operand as OperandOf}
 use Rattle.law_operands_fetched.specs.reload_choice.Sound.{IsSoundPlan}
@@ -90,8 +90,8 @@ place_is a t found n made memory has apart =
     operand_case c is role has =
         let r = ap role_of is ∙ role in (r, number_there found (head_of a).number n t (sym (made_operand a found r) ∙ made) has)
 
-    here : (c : Code) → (head_of a).code ≡ c → has_number n (changed_here (head_of a).code (head_of a).number) ≡ true → has_number n (changed_here c (head_of a).number) ≡ true
-    here c is has = sym (ap (λ c. has_number n (changed_here c (head_of a).number)) is) ∙ has
+    here : (c : Code) → (head_of a).code ≡ c → has_number n (operand_here (head_of a).code (head_of a).number) ≡ true → has_number n (operand_here c (head_of a).number) ≡ true
+    here c is has = sym (ap (λ c. has_number n (operand_here c (head_of a).number)) is) ∙ has
 
     low_case : (head_of a).code ≡ code.Subreg → IsPlace a n
     low_case is =

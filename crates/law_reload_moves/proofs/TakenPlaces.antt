@@ -11,7 +11,7 @@ use Rattle.law_operands_fetched.specs.rtx_tree.declared.code.Code.{Code}
 use Rattle.law_operands_fetched.specs.rtx_tree.declared.code.Code.TheVariants as code
 use Rattle.law_operands_fetched.specs.rtx_tree.declared.tree.Rtx.{Rtx}
 use Rattle.law_operands_fetched.specs.rtx_tree.declared.tree.Rtx.TheFolds.{fold_out-Rtx}
-use Rattle.law_operands_fetched.specs.md_constr.Inputs.{taken_here, taken_in, taken_at_by, taken_at, taken_by_parts, taken_by, effects_of}
+use Rattle.law_operands_fetched.specs.md_constr.Inputs.{operand_here, taken_in, taken_at_by, taken_at, taken_by_parts, taken_by, effects_of}
 use Rattle.law_operands_fetched.specs.md_match.Pattern.{role_of}
 use Rattle.law_operands_fetched.specs.md_match.declared.role.Role.TheVariants.{Operand}
 use Rattle.law_operands_fetched.specs.reload_operands.Directions.{has_number, is_input, is_hidden, is_operator_code, scratch_here, scratch_step, scratches_in, reads_scratch, hides}
@@ -43,7 +43,7 @@ abbrev pub IsTaken : ℕ → Rtx → Type 0
 IsTaken k p = (has_number k (taken_in p) ≡ true) ⊎ (has_number k (scratches_in p) ≡ true)
 
 operand_taken : (c : Code) (k : ℕ) → role_of c ≡ Operand →
-    (has_number k (taken_here c (pos k)) ≡ true) ⊎ (has_number k (scratch_here c (pos k)) ≡ true)
+    (has_number k (operand_here c (pos k)) ≡ true) ⊎ (has_number k (scratch_here c (pos k)) ≡ true)
 operand_taken code.MatchOperand k is = inl (itself_number k)
 operand_taken code.MatchDup k is = inl (itself_number k)
 operand_taken code.MatchScratch k is = inr (itself_number k)
@@ -51,13 +51,13 @@ operand_taken _ k is = absurd (let no : ⊥ = cc in no)
 
 pub stands_taken : (p x : Rtx) (number : ℤ) (z : Rtx) (k : ℕ) → StandsFor p x number z → number ≡ pos k → IsTaken k p
 stands_taken _ _ _ _ k (itself p x is) same = elim (operand_taken (head_of p).code k is) [
-  | inl taken ↦ inl (takes_out k p ∙ or_left (has_number k (taken_here (head_of p).code (head_of p).number)) _
-      (ap (λ n. has_number k (taken_here (head_of p).code n)) same ∙ taken))
+  | inl taken ↦ inl (takes_out k p ∙ or_left (has_number k (operand_here (head_of p).code (head_of p).number)) _
+      (ap (λ n. has_number k (operand_here (head_of p).code n)) same ∙ taken))
   | inr scratch ↦ inr (scratch_out k p ∙ or_left (has_number k (scratch_here (head_of p).code (head_of p).number)) _
       (ap (λ n. has_number k (scratch_here (head_of p).code n)) same ∙ scratch))
 ]
 stands_taken _ _ _ _ k (part p x q y z number other long at more) same = elim (stands_taken q y number z k more same) [
-  | inl taken ↦ inl (takes_out k p ∙ or_right (has_number k (taken_here (head_of p).code (head_of p).number)) _
+  | inl taken ↦ inl (takes_out k p ∙ or_right (has_number k (operand_here (head_of p).code (head_of p).number)) _
       (any_place (λ part. has_number k (taken_in part)) (kids_of p) (kids_of x) q y at taken))
   | inr scratch ↦ inr (scratch_out k p ∙ or_right (has_number k (scratch_here (head_of p).code (head_of p).number)) _
       (any_place (λ part. has_number k (scratches_in part)) (kids_of p) (kids_of x) q y at scratch))

@@ -10,7 +10,7 @@ use Rattle.law_operands_fetched.specs.rtx_tree.declared.tree.Rtx.{Rtx}
 use Rattle.law_operands_fetched.specs.rtl_func.Shapes.{is_shaped}
 use Rattle.law_operands_fetched.proofs.rtl_func.AllPass as nodes
 use Rattle.law_operands_fetched.proofs.rtl_func.AllPass.{all_pass}
-use Rattle.law_operands_fetched.specs.md_constr.Inputs.{taken_here, taken_in}
+use Rattle.law_operands_fetched.specs.md_constr.Inputs.{operand_here, taken_in}
 use Rattle.law_operands_fetched.proofs.md_match.Instantiated.{each_made}
 use Rattle.law_operands_fetched.specs.md_match.Match.{IsAsked}
 use Rattle.law_operands_fetched.specs.md_match.Pattern.{Ops, role_of, placeholders, operand_of, operand_numbered, instantiated}
@@ -134,7 +134,7 @@ module _ (homes : List HomeOf) (layout : Layout) (found : Ops) where
       by (Some reg) place = replaced (is_place w reg place)
 
   takes_step : (p : Rtx) → AllByRecursion Takes (kids_of p) → Takes p
-  takes_step p each w x k is has = elim (or_cases (has_number k (taken_here (head_of p).code (head_of p).number)) _ (sym (takes_out k p) ∙ has)) [
+  takes_step p each w x k is has = elim (or_cases (has_number k (operand_here (head_of p).code (head_of p).number)) _ (sym (takes_out k p) ∙ has)) [
     | inl mine ↦
         let t = taken_itself homes layout found (head_of p).code p w k refl is.made is.asked mine in
         inl (record {

@@ -39,7 +39,7 @@ use Rattle.law_operands_fetched.specs.reload_homes.Homes.{home_of, slot_offset, 
 use Rattle.law_operands_fetched.specs.reload_homes.Homes as places
 use Rattle.law_operands_fetched.proofs.reload_homes.Rewrites.{homed_register, homed_over}
 use Rattle.law_operands_fetched.specs.reload_operands.Changes as changes
-use Rattle.law_operands_fetched.specs.reload_operands.Changes.{target_by}
+use Rattle.law_operands_fetched.specs.md_constr.Inputs.{target_by}
 use Rattle.law_operands_fetched.proofs.law_operands_replaced.ElementTurns.{effect_code}
 use Rattle.law_operands_fetched.proofs.HomedQuiet.{RegisterCase, whole, low, case_of}
 use Rattle.law_reload_moves.proofs.HomedTrees.{low_placed}

@@ -26,4 +26,4 @@ admitted_well_formed f admitted barriers = record {
 pub input_well_formed : (bytes : List ℕ) (functions : List Function) → IsInput bytes functions → (index : ℕ) (f : Function) →
     slice_get functions index ≡ Some f → IsWellFormed f
 input_well_formed bytes functions input index f at =
-    admitted_well_formed f (each_admitted functions input.admitted index f at) (read_barriers input.trees functions input.stand index f at)
+    admitted_well_formed f (each_admitted functions input.admitted index f at) (read_barriers input.read.trees functions input.read.stand index f at)

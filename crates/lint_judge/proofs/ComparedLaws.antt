@@ -9,7 +9,7 @@ use Rattle.equate.specs.Answers.{Gives}
 use Rattle.equate.specs.Views.{side_of}
 use Rattle.equate.specs.declared.verdict.Side.{Side}
 use Rattle.equate.specs.declared.verdict.Verdict.{Verdict}
-use Rattle.lint_judge.specs.Lines.{AreReadAs}
+use Rattle.md_output.specs.Read.{AreReadAs}
 use Rattle.lint_judge.specs.Judged.{AreAllLive, Tells, IsCompared}
 use Rattle.lint_judge.specs.declared.judged.Fault.{Fault}
 use Rattle.lint_judge.specs.machine.Steps.{lines_in}

@@ -1,2 +1,1 @@
-pub mod ReadLaws
 pub mod ComparedLaws

@@ -11,7 +11,8 @@ use Rattle.sym_diff.specs.Difference.{Differ, Lacks}
 use Rattle.equate.specs.Side.{Lines}
 use Rattle.equate.specs.Verdict.{Verdict, Same, Different, BadShape, TooLarge}
 use Rattle.equate.specs.Equated.{verdict}
-use Rattle.lint_judge.specs.Lines.{AreReadAs, is_unread, is_quoted}
+use Rattle.lint_judge.specs.Lines.{is_unread, is_quoted}
+use Rattle.md_output.specs.Read.{AreReadAs}
 use Rattle.lint_judge.specs.declared.judged.Fault.{Fault}
 use Rattle.lint_judge.specs.declared.judged.Fault.TheVariants as fault
 use Rattle.lint_judge.specs.declared.judged.Judged.{Judged}

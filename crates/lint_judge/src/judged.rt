@@ -4,13 +4,14 @@ ghost use Rattle.equate.specs.Side as sides;
 ghost use Rattle.equate.specs.Verdict as verdicts;
 ghost use Rattle.equate.specs.Answers.{Gives};
 ghost use Rattle.equate.specs.Views.{side_of};
-ghost use Rattle.lint_judge.specs.Lines.{AreReadAs};
+ghost use Rattle.md_output.specs.Read.{AreReadAs};
 ghost use Rattle.lint_judge.specs.Judged.{Tells, IsCompared, IsJudged};
 ghost use Rattle.lint_judge.specs.machine.Steps as steps;
 
-use crate::lines::{is_quoted, is_unread, read_lines, texts_of};
+use crate::lines::{is_quoted, is_unread, texts_of};
 use crate::live::all_live;
 use equate::{Side, Verdict, equate};
+use md_output::read_lines;
 use md_text::Template;
 use plain_data::{Items, Memory};
 use rtx_tree::{Insn, Name, Operands};

@@ -3,13 +3,12 @@ ghost use Rattle.std.specs.Prelude.{◌≡◌, IfOk};
 ghost use Rattle.std.specs.List.{list_any};
 ghost use Rattle.md_output.specs.Filled.{filled, lines_of as texts_in};
 ghost use Rattle.lint_judge.specs.Lines as spec;
-ghost use Rattle.lint_judge.specs.Lines.{IsReadAs, AreReadAs};
 
 use md_output::{fill, lines_of};
 use md_text::Template;
 use plain_data::{Items, Memory};
 use rtx_tree::{Name, Operands};
-use rv_text::{Line, LineParts, parse_line};
+use rv_text::Line;
 use std::alloc::Global;
 
 /// The texts of a template's lines, filled with operands.
@@ -26,28 +25,6 @@ pub fn texts_of(
     let mut text = Vec::new(alloc);
     fill(template, alternative, operands, 0, uid, &mut text)?;
     lines_of(alloc, text.as_slice())
-}
-
-/// The line of a text, or one that is none of the table's.
-fn read_line(alloc: Global, text: &[u8]) -> Result<Line, Memory>
-    ensures { IfOk result (λ line. IsReadAs text.now line) }
-{
-    match parse_line(alloc, text)? {
-        Some(line) => Ok(line),
-        None => LineParts::bare(b"").to_line(alloc),
-    }
-}
-
-/// The lines of some texts.
-#[tactic(auto, using(crate::proofs::ReadLaws::read_end))]
-pub fn read_lines(alloc: Global, texts: &[Name]) -> Result<Items<Line>, Memory>
-    ensures { IfOk result (λ lines. AreReadAs texts.now lines) }
-{
-    let mut lines = Items::new(alloc);
-    for text in texts {
-        lines.push(read_line(alloc, text.bytes())?)?;
-    }
-    Ok(lines)
 }
 
 /// Whether the text at a place was no line.

@@ -9,10 +9,9 @@ use Rattle.rtx_tree.specs.declared.code.Code.TheVariants as code
 use Rattle.rtx_tree.specs.declared.code.Mode.{Mode}
 use Rattle.rtx_tree.specs.declared.code.Mode.TheVariants.{Void, DI}
 use Rattle.rtx_tree.specs.declared.tree.Rtx.{Rtx}
-use Rattle.rtx_tree.specs.Code.{all_codes, named_modes, class_of_code, is_value_class}
+use Rattle.rtx_tree.specs.Code.{all_codes, named_modes, class_of_code, is_value_class, same_mode}
 use Rattle.rtx_tree.specs.Tree.{reg_of, const_of, named_of, node_of, leaf_of}
 use Rattle.rtx_tree.specs.Patterns.{sum_rtx}
-use Rattle.md_operand.specs.Operand.{same_mode}
 use Rattle.rv_regs.specs.Registers.{stack_pointer}
 use Rattle.lint_made.specs.declared.candidate.Candidate.{Candidate}
 use Rattle.lint_made.specs.declared.candidate.Candidate.TheVariants as candidate

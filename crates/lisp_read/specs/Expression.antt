@@ -17,7 +17,7 @@ use Rattle.lisp_read.specs.declared.position.Position.{Position}
 use Rattle.lisp_read.specs.declared.position.Position.TheVariants.{Top, Value, Place, Clobbered, Source, Pattern, Pc, Jump, Test, Target, Callee, Words, Inner}
 use Rattle.lisp_read.specs.Shape.{atom_of, items_of, vector_of, is_vector, is_nested, is_word}
 use Rattle.lisp_read.specs.Parsed.{Parsed, stands, outside, parsed_map, parsed_then}
-use Rattle.rtx_tree.specs.Code.{class_of_code}
+use Rattle.rtx_tree.specs.Code.{class_of_code, is_constant_class, is_counter_class}
 use Rattle.lisp_read.specs.Positions.{admits, mode_at}
 use Rattle.lisp_read.specs.Head.{head_in}
 use Rattle.lisp_read.specs.Leaf.{word_with, symbol_with}
@@ -44,24 +44,16 @@ head_at p t = option_and_then (placed p) (head_of t)
 
 -- ---- the parts
 
-abbrev pub is_class_counter : Class → Bool
-is_class_counter class.Counter = true
-is_class_counter _ = false
-
-abbrev pub is_class_number : Class → Bool
-is_class_number class.Constant = true
-is_class_number _ = false
-
 abbrev pub head_is : (Class → Bool) → Option Opening → Bool
 head_is test None = false
 head_is test (Some h) = test (class_of h)
 
 -- the tree begins as the program counter does, or as a constant
 abbrev pub is_counter : Tree → Bool
-is_counter t = head_is is_class_counter (head_of t)
+is_counter t = head_is is_counter_class (head_of t)
 
 abbrev pub is_constant : Tree → Bool
-is_constant t = head_is is_class_number (head_of t)
+is_constant t = head_is is_constant_class (head_of t)
 
 -- expressions at these positions behind the head, and no more
 abbrev pub exactly : List Position → List Tree → Option (List Position)

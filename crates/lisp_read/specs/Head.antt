@@ -3,10 +3,10 @@
 use Rattle.std.specs.Prelude.{ℕ, ◌+◌, Bool, true, false, not, ◌==◌, ◌&&◌, ◌||◌, List, [], ◌∷◌, Option, Some, None, if◌then◌else◌, option_map, option_and_then, take, drop}
 use Rattle.std.specs.List.{list_any, position_from}
 use Rattle.rtx_tree.specs.declared.code.Code.{Code}
-use Rattle.rtx_tree.specs.declared.code.Code.TheVariants.{Mem}
 use Rattle.rtx_tree.specs.declared.code.Mode.{Mode}
 use Rattle.rtx_tree.specs.declared.code.Mode.TheVariants.{Void}
 use Rattle.rtx_tree.specs.Code.{code_in, mode_named}
+use Rattle.rtx_tree.specs.Tree.{is_memory_code}
 use Rattle.lisp_read.specs.declared.head.Opening.{Opening}
 
 -- where the first byte of a kind stands in a text
@@ -40,14 +40,10 @@ are_flags due (b ∷ bs) = (if due then is_flag b else b == 47) && are_flags (no
 abbrev pub is_volatile : List ℕ → Bool
 is_volatile flags = list_any (λ b. b == 118) flags
 
-abbrev pub is_mem : Code → Bool
-is_mem Mem = true
-is_mem _ = false
-
 -- flags are passed over, but volatile memory is outside the language
 abbrev pub flags_pass : Code → Option (List ℕ) → Bool
 flags_pass c None = true
-flags_pass c (Some flags) = are_flags true flags && not (is_mem c && is_volatile flags)
+flags_pass c (Some flags) = are_flags true flags && not (is_memory_code c && is_volatile flags)
 
 abbrev pub flagged : Option (List ℕ) → Code → Option Code
 flagged flags c = if flags_pass c flags then Some c else None

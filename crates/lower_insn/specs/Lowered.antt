@@ -6,8 +6,8 @@ use Rattle.rtx_tree.specs.declared.function.Insn.{Insn}
 use Rattle.rtx_tree.specs.Tree.{head_of}
 use Rattle.md_match.specs.Pattern.{Ops}
 use Rattle.md_forms.specs.declared.form.Entry.{Entry}
-use Rattle.md_desc.specs.Recog.{MatchesAt, NoneMatches}
-use Rattle.form_needs.specs.Needs.{is_note, needs_form, lower_facts}
+pub use Rattle.form_needs.specs.Matched.{IsMatched, IsUnmatched}
+use Rattle.form_needs.specs.Needs.{is_note, needs_form}
 use Rattle.gen_emit.specs.declared.emission.Emission.{Emission}
 use Rattle.pass_refusal.specs.declared.refusal.PassRefusal.{PassRefusal}
 use Rattle.pass_refusal.specs.declared.refusal.PassRefusal.TheVariants as refusal
@@ -18,16 +18,6 @@ use Rattle.lower_insn.specs.declared.part.Part.TheVariants.{Lower, Emit, Emitted
 use Rattle.lower_insn.specs.declared.part.Plan.{Plan}
 use Rattle.lower_insn.specs.declared.part.Uids.{Uids}
 use Rattle.lower_insn.specs.Plan.{planned, emission_of}
-
--- some form matches a pattern before registers have homes
-pub record IsMatched (forms : List Entry) (x : Rtx) : Type 0 where
-  pub form : ℕ
-  pub operands : Ops
-  pub matches : MatchesAt forms lower_facts x form operands
-
--- none does
-abbrev pub IsUnmatched : List Entry → Rtx → Type 0
-IsUnmatched forms x = NoneMatches forms lower_facts x
 
 -- a use or a clobber alone
 abbrev pub is_note_tree : Rtx → Bool

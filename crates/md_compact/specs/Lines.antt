@@ -1,9 +1,10 @@
 -- The text of a block and its lines: GCC Internals, "Compact Syntax". A line of blanks and a line
 -- that begins with // carry nothing, and blanks between the parts of a block don't either.
-use Rattle.std.specs.Prelude.{ℕ, ◌==◌, Bool, false, ◌&&◌, ◌||◌, List, [], ◌∷◌, ◌++◌, Option, Some, None, if◌then◌else◌, length, take, drop, option_map}
+use Rattle.std.specs.Prelude.{ℕ, ◌==◌, Bool, false, ◌&&◌, ◌||◌, List, [], ◌∷◌, ◌++◌, Option, Some, None, if◌then◌else◌, length, take, drop}
 use Rattle.std.specs.List.{flat_map, list_all}
 use Rattle.std.specs.Str.{bytes_eq}
 use Rattle.text_words.specs.Blanks.{is_blank, behind_blanks}
+use Rattle.text_words.specs.Cut.{cut}
 
 -- ---- lines
 
@@ -29,11 +30,6 @@ past_blank [] = []
 past_blank (first ∷ more) = if list_all is_blank first then more else first ∷ more
 
 -- ---- what stands between
-
--- what stands before and behind the first of a byte
-abbrev pub cut : ℕ → List ℕ → Option (List ℕ × List ℕ)
-cut byte [] = None
-cut byte (b ∷ rest) = if b == byte then Some ([], rest) else option_map (λ parts. (b ∷ parts.0, parts.1)) (cut byte rest)
 
 -- behind blanks and [, what stands before and behind the first ]
 abbrev pub bracketed_by : List ℕ → Option (List ℕ × List ℕ)

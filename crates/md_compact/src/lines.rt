@@ -6,7 +6,7 @@ ghost use Rattle.md_compact.specs.Lines as spec;
 use plain_data::Memory;
 use rtx_tree::Name;
 use std::alloc::Global;
-use text_words::{all_blank, behind_blanks, print_text};
+use text_words::{all_blank, behind_blanks, cut, print_text};
 
 /// Whether a line is of blanks, or begins with `//` behind blanks.
 fn says_nothing(line: &[u8]) -> bool
@@ -41,19 +41,6 @@ pub fn past_blank(lines: &[Name]) -> &[Name]
         [first, more @ ..] if all_blank(first.bytes()) => more,
         _ => lines,
     }
-}
-
-/// What stands before and behind the first of a byte.
-fn cut(text: &[u8], byte: u8) -> Option<(&[u8], &[u8])>
-    ensures { option_map (λ parts.
-        (parts.0.now, parts.1.now)) result ≡ spec.cut byte text.entry.now }
-{
-    for (at, other) in text.iter().enumerate() {
-        if *other == byte {
-            return Some((&text[..at], &text[at + 1..]));
-        }
-    }
-    None
 }
 
 /// Behind blanks and `[`, what stands before and behind the first `]`.

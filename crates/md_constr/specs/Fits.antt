@@ -16,7 +16,8 @@ use Rattle.md_forms.specs.declared.form.OperandConstraint.{OperandConstraint}
 use Rattle.md_forms.specs.declared.form.Entry.{Entry}
 use Rattle.md_attr.specs.Alternatives.{form_at}
 use Rattle.md_constr.specs.Inputs.{operands_of, inputs_of, changed_of}
-use Rattle.md_constr.specs.Admits.{letter_admits, register_of, name_admits}
+use Rattle.md_constr.specs.Admits.{letter_admits, name_admits}
+use Rattle.md_constr.specs.Early as early
 
 -- the operands that defined constraints admit, by the constraints' names
 abbrev pub Named : Type 0
@@ -46,23 +47,18 @@ mentions_at operands reg n = option_map_or (mentions_reg reg) (operand_at operan
 -- an input other than operand n mentions the register
 abbrev pub is_shared : List ℕ → List (Option Rtx) → ℕ → ℕ → Bool
 is_shared inputs operands n reg =
-    list_any (λ input. not (input == n) && mentions_at operands reg input) inputs
+    early.is_shared (λ input. input) (λ input reg. mentions_at operands reg input) inputs n reg
 
--- a register shares itself with an input; what is in memory shares none
-abbrev pub shares_register : List ℕ → List (Option Rtx) → ℕ → Rtx → Bool
-shares_register inputs operands n x =
-    option_map_or (is_shared inputs operands n) (register_of x) false
-
--- the pattern changes it, and it is changed before all inputs are taken
-abbrev pub is_early : List ℕ → OperandConstraint → Alternative → Bool
-is_early changed k a = a.early && list_any (λ number. number == k.operand) changed
+-- the pattern changes the operand of a constraint
+abbrev pub is_changed : List ℕ → OperandConstraint → Bool
+is_changed changed k = list_any (λ number. number == k.operand) changed
 
 -- an operand in an alternative of its constraint is an earlyclobber output that shares a register
 -- with an input
 abbrev pub clashes_in : List ℕ → List ℕ → List (Option Rtx) → OperandConstraint → Rtx →
     Alternative → Bool
 clashes_in inputs changed operands k x a =
-    is_early changed k a && shares_register inputs operands k.operand x
+    early.clashes a.early (is_changed changed k) (early.shares_register (is_shared inputs operands k.operand) x)
 
 -- ---- memory at far addresses
 

@@ -1,8 +1,9 @@
 -- Which operands of a form are taken and which are changed: GCC Internals, "RTL Template" and "Side
 -- Effect Expressions". The pattern decides it, and not the marks of the constraints.
-use Rattle.std.specs.Prelude.{ℕ, ℤ, List, [], ◌∷◌, ◌++◌}
+use Rattle.std.specs.Prelude.{ℕ, ℤ, List, [], ◌∷◌, ◌++◌, Option, Some, None}
 use Rattle.std.specs.Int.{cast_unsigned, w64}
 use Rattle.std.specs.List.{flat_map}
+use Rattle.std.specs.Option.{option_map_or, option_or}
 use Rattle.rtx_tree.specs.declared.code.Code.{Code}
 use Rattle.rtx_tree.specs.declared.code.Code.TheVariants.{MatchOperand, MatchDup, MatchScratch, MatchOperator, MatchOpDup, Set, Use, Clobber, Parallel, Subreg}
 use Rattle.rtx_tree.specs.declared.tree.Rtx.{Rtx}
@@ -11,18 +12,19 @@ use Rattle.rtx_tree.specs.declared.tree.Rtx.TheFolds.{fold-Rtx}
 use Rattle.rtx_tree.specs.Tree.{head_of, kids_of}
 use Rattle.md_forms.specs.declared.form.Form.{Form}
 
+-- An operand, an operator, a scratch and a dup of an operand stand for the operand: where they are
+-- taken it is taken, and where they are changed it is changed.
+abbrev pub operand_here : Code → ℤ → List ℕ
+operand_here MatchOperand number = cast_unsigned w64 number ∷ []
+operand_here MatchDup number = cast_unsigned w64 number ∷ []
+operand_here MatchScratch number = cast_unsigned w64 number ∷ []
+operand_here MatchOperator number = cast_unsigned w64 number ∷ []
+operand_here _ number = []
+
 -- ---- what is taken
 
--- An operand, an operator, a scratch and a dup of an operand take the operand's value.
-abbrev pub taken_here : Code → ℤ → List ℕ
-taken_here MatchOperand number = cast_unsigned w64 number ∷ []
-taken_here MatchDup number = cast_unsigned w64 number ∷ []
-taken_here MatchScratch number = cast_unsigned w64 number ∷ []
-taken_here MatchOperator number = cast_unsigned w64 number ∷ []
-taken_here _ number = []
-
 abbrev pub taken_step : Rtx-F (List ℕ) → List ℕ
-taken_step x = taken_here x.code x.number ++ flat_map (λ numbers. numbers) x.kids
+taken_step x = operand_here x.code x.number ++ flat_map (λ numbers. numbers) x.kids
 
 -- the numbers of the operands whose values an expression takes
 abbrev pub taken_in : Rtx → List ℕ
@@ -58,15 +60,8 @@ taken_by x = taken_by_parts (head_of x).code x (kids_of x)
 
 -- ---- what is changed
 
-abbrev pub changed_here : Code → ℤ → List ℕ
-changed_here MatchOperand number = cast_unsigned w64 number ∷ []
-changed_here MatchDup number = cast_unsigned w64 number ∷ []
-changed_here MatchScratch number = cast_unsigned w64 number ∷ []
-changed_here MatchOperator number = cast_unsigned w64 number ∷ []
-changed_here _ number = []
-
 abbrev pub changed_whole : Rtx → List ℕ
-changed_whole x = changed_here (head_of x).code (head_of x).number
+changed_whole x = operand_here (head_of x).code (head_of x).number
 
 abbrev pub changed_at_by : Code → Rtx → List Rtx → List ℕ
 changed_at_by Subreg x (inner ∷ []) = changed_whole inner
@@ -76,22 +71,47 @@ changed_at_by _ x parts = changed_whole x
 abbrev pub changed_at : Rtx → List ℕ
 changed_at target = changed_at_by (head_of target).code target (kids_of target)
 
--- by an effect's code: a set changes its target, and so does a clobber
-abbrev pub changed_by_parts : Code → List Rtx → List ℕ
-changed_by_parts Set (target ∷ source ∷ []) = changed_at target
-changed_by_parts Clobber (target ∷ []) = changed_at target
-changed_by_parts _ parts = []
+-- what a set sets
+abbrev pub set_target_by : Code → List Rtx → Option Rtx
+set_target_by Set (target ∷ source ∷ []) = Some target
+set_target_by _ parts = None
 
+-- what a clobber names
+abbrev pub clobber_target_by : Code → List Rtx → Option Rtx
+clobber_target_by Clobber (target ∷ []) = Some target
+clobber_target_by _ parts = None
+
+-- what a set or a clobber changes
+abbrev pub target_by : Code → List Rtx → Option Rtx
+target_by c parts = option_or (set_target_by c parts) (clobber_target_by c parts)
+
+abbrev pub target_of : Rtx → Option Rtx
+target_of x = target_by (head_of x).code (kids_of x)
+
+-- the operand that is a target, if there is one
+abbrev pub changed_in_target : Option Rtx → List ℕ
+changed_in_target target = option_map_or changed_at target []
+
+abbrev pub changed_by_parts : Code → List Rtx → List ℕ
+changed_by_parts c parts = changed_in_target (target_by c parts)
+
+-- the operand that a set or a clobber changes
 abbrev pub changed_by : Rtx → List ℕ
 changed_by x = changed_by_parts (head_of x).code (kids_of x)
 
--- the operand that a set alone changes
 abbrev pub set_by_parts : Code → List Rtx → List ℕ
-set_by_parts Set (target ∷ source ∷ []) = changed_at target
-set_by_parts _ parts = []
+set_by_parts c parts = changed_in_target (set_target_by c parts)
 
+-- the operand that a set changes
 abbrev pub set_by : Rtx → List ℕ
 set_by x = set_by_parts (head_of x).code (kids_of x)
+
+abbrev pub clobbered_by_parts : Code → List Rtx → List ℕ
+clobbered_by_parts c parts = changed_in_target (clobber_target_by c parts)
+
+-- the operand that a clobber names
+abbrev pub clobbered_by : Rtx → List ℕ
+clobbered_by x = clobbered_by_parts (head_of x).code (kids_of x)
 
 -- ---- forms
 

@@ -5,7 +5,7 @@ ghost use Rattle.md_constr.specs.Admits as spec;
 
 use c_eval::register_in;
 use md_forms::RegisterClass;
-use md_operand::{is_constant, is_memory, is_register, is_symbol, legitimate_address};
+use md_operand::{is_memory, is_register, is_symbol, legitimate_address};
 use md_text::Letter;
 use rtx_tree::{Code, Rtx};
 use rv_regs::{Class, in_class};
@@ -13,7 +13,7 @@ use rv_regs::{Class, in_class};
 fn is_immediate(x: &Rtx) -> bool
     ensures { result ≡ spec.is_immediate x.now }
 {
-    is_constant(x) || is_symbol(x)
+    x.is_constant() || is_symbol(x)
 }
 
 /// Whether a letter of the manual admits an operand.
@@ -24,7 +24,7 @@ pub fn letter_admits(letter: Letter, x: &Rtx) -> bool
         Letter::Register => is_register(x),
         Letter::Memory => is_memory(x),
         Letter::Immediate => is_immediate(x),
-        Letter::Constant => is_constant(x),
+        Letter::Constant => x.is_constant(),
         Letter::Symbol => is_symbol(x),
         Letter::General => is_register(x) || is_memory(x) || is_immediate(x),
         Letter::Anything => true,

@@ -1,6 +1,6 @@
 //! Outputs that are changed before all inputs are taken.
-ghost use Rattle.std.specs.Prelude.{◌≡◌, ◌==◌};
-ghost use Rattle.std.specs.List.{list_any};
+ghost use Rattle.std.specs.Prelude.{◌≡◌};
+ghost use Rattle.md_constr.specs.Early as early;
 ghost use Rattle.md_constr.specs.Fits as spec;
 
 use crate::admits::register_of;
@@ -17,12 +17,6 @@ fn mentions_at(operands: &Operands, reg: u32, number: u64) -> bool
     }
 }
 
-fn is_among(numbers: &[u64], own: u64) -> bool
-    ensures { result ≡ list_any (λ number. number == own) numbers.now }
-{
-    numbers.iter().any(|number| *number == own)
-}
-
 /// Whether an input other than an operand mentions a register.
 fn is_shared(inputs: &[u64], operands: &Operands, own: u64, reg: u32) -> bool
     ensures { result ≡ spec.is_shared inputs.now operands.now own reg }
@@ -32,7 +26,8 @@ fn is_shared(inputs: &[u64], operands: &Operands, own: u64, reg: u32) -> bool
 
 /// Whether a register shares itself with an input other than an operand.
 fn shares_register(inputs: &[u64], operands: &Operands, own: u64, x: &Rtx) -> bool
-    ensures { result ≡ spec.shares_register inputs.now operands.now own x.now }
+    ensures { result ≡
+        early.shares_register (spec.is_shared inputs.now operands.now own) x.now }
 {
     match register_of(x) {
         Some(reg) => is_shared(inputs, operands, own, reg),
@@ -40,11 +35,12 @@ fn shares_register(inputs: &[u64], operands: &Operands, own: u64, x: &Rtx) -> bo
     }
 }
 
-/// Whether an operand is changed before all inputs are taken.
-fn is_early(changed: &[u64], constraint: &OperandConstraint, alternative: &Alternative) -> bool
-    ensures { result ≡ spec.is_early changed.now constraint.now alternative.now }
+/// Whether the operand of a constraint is changed.
+fn is_changed(changed: &[u64], constraint: &OperandConstraint) -> bool
+    ensures { result ≡ spec.is_changed changed.now constraint.now }
 {
-    alternative.early && is_among(changed, u64::from(constraint.operand))
+    let own = u64::from(constraint.operand);
+    changed.iter().any(|number| *number == own)
 }
 
 /// Whether an operand is an earlyclobber output in an alternative of its constraint that shares a
@@ -60,6 +56,7 @@ pub fn clashes_in(
     ensures { result ≡
         spec.clashes_in inputs.now changed.now operands.now constraint.now x.now alternative.now }
 {
-    is_early(changed, constraint, alternative)
+    alternative.early
+        && is_changed(changed, constraint)
         && shares_register(inputs, operands, u64::from(constraint.operand), x)
 }

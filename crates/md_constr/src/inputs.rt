@@ -13,8 +13,9 @@ use std::slice;
 /// Numbers of operands.
 type Numbers = Items<u64>;
 
-fn push_taken_here(x: &Rtx, numbers: &mut Numbers) -> Result<(), Memory>
-    ensures { OnOk result (numbers.new ≡ numbers.old ++ spec.taken_here (head_of x.now).code
+/// Appends the number of the operand for which an expression itself stands.
+fn push_operand_here(x: &Rtx, numbers: &mut Numbers) -> Result<(), Memory>
+    ensures { OnOk result (numbers.new ≡ numbers.old ++ spec.operand_here (head_of x.now).code
         (head_of x.now).number) }
 {
     match x.code {
@@ -30,7 +31,7 @@ fn push_taken_here(x: &Rtx, numbers: &mut Numbers) -> Result<(), Memory>
 fn push_taken(x: &Rtx, numbers: &mut Numbers) -> Result<(), Memory>
     ensures { OnOk result (numbers.new ≡ numbers.old ++ spec.taken_in x.now) }
 {
-    push_taken_here(x, numbers)?;
+    push_operand_here(x, numbers)?;
     for kid in x.kids.as_slice() {
         push_taken(kid, numbers)?;
     }
@@ -86,24 +87,13 @@ fn push_taken_by(x: &Rtx, numbers: &mut Numbers) -> Result<(), Memory>
     }
 }
 
-fn push_changed_whole(x: &Rtx, numbers: &mut Numbers) -> Result<(), Memory>
-    ensures { OnOk result (numbers.new ≡ numbers.old ++ spec.changed_whole x.now) }
-{
-    match x.code {
-        Code::MatchOperand | Code::MatchDup | Code::MatchScratch | Code::MatchOperator => {
-            numbers.push(x.number.cast_unsigned())
-        }
-        _ => Ok(()),
-    }
-}
-
 /// Appends the operand that is a target, or whose low part is.
 fn push_changed_at(target: &Rtx, numbers: &mut Numbers) -> Result<(), Memory>
     ensures { OnOk result (numbers.new ≡ numbers.old ++ spec.changed_at target.now) }
 {
     match (target.code, target.kids.as_slice()) {
-        (Code::Subreg, [inner]) => push_changed_whole(inner, numbers),
-        _ => push_changed_whole(target, numbers),
+        (Code::Subreg, [inner]) => push_operand_here(inner, numbers),
+        _ => push_operand_here(target, numbers),
     }
 }
 

@@ -1,3 +1,4 @@
+pub mod OutputReasons
 pub mod Reasons
 mod OperandLaws
 mod EachFrom

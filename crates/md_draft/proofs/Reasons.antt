@@ -9,10 +9,13 @@ use Rattle.md_pattern.specs.Reason.{number_of, both, IsSmallest}
 use Rattle.md_draft.specs.declared.head.FormHead.{FormHead}
 use Rattle.md_draft.specs.declared.draft.Draft.{Draft}
 use Rattle.md_draft.specs.Head.{head_named}
-use Rattle.md_draft.specs.Layout.{layout_of, is_whole}
+use Rattle.md_draft.specs.Layout.{layout_of, part_at, is_whole}
+use Rattle.md_draft.specs.Outputs.{output_with as output_made, block_in as block_there, output_of_tree, block_of_tree}
+use Rattle.md_draft.specs.OutputReasons.{OutputHasReason}
 use Rattle.md_draft.specs.Draft as draft
 use Rattle.md_draft.specs.Draft.{block_in, draft_in, draft_by, parts_draft, without, whole_draft, matched_in, made_in, printed_in, defined_in, matched_with, made_with, printed_with, defined_with, draft_with, head_in, headed, entry_by, entry_of}
 use Rattle.md_draft.specs.Reasons.{HasReason, Applies, head_of}
+use Rattle.md_draft.proofs.OutputReasons.{of_output}
 use Rattle.md_pattern.proofs.Smallest.{Of, Or, alone, change, made as made_of, pair, with}
 
 module _ (constants : List Constant) (values : List (List ℕ)) (h : FormHead) (ts : List Tree) where
@@ -31,12 +34,32 @@ module _ (constants : List Constant) (values : List (List ℕ)) (h : FormHead) (
   made = with (Of (draft.split_condition_in constants values h ts)) (Or (Of (draft.sequence_in constants h ts)) (Of (draft.statements_in constants h ts))) made_with (draft.split_condition_in constants values h ts) (both (draft.sequence_in constants h ts) (draft.statements_in constants h ts)) (alone _)
       (pair (Of (draft.sequence_in constants h ts)) (Of (draft.statements_in constants h ts)) (draft.sequence_in constants h ts) (draft.statements_in constants h ts) (alone _) (alone _))
 
+  abbrev OfOutput : Reason → Type 0
+  OfOutput r = (t : Tree) × (part_at ts (layout_of h).output ≡ Some t) × OutputHasReason t r
+
+  same_tree : (a b : Tree) (o : Option Tree) → o ≡ Some a → o ≡ Some b → a ≡ b
+  same_tree a b o first second = let e : ◌≡◌ {A = Option Tree} (Some a) (Some b) = sym first ∙ second in cc
+
+  no_tree : {P : Type 0} (a : Tree) (o : Option Tree) → o ≡ None → o ≡ Some a → P
+  no_tree a o none some = absurd (let e : ◌≡◌ {A = Option Tree} None (Some a) = sym none ∙ some in let no : ⊥ = cc in no)
+
+  by_output : (o : Option Tree) → part_at ts (layout_of h).output ≡ o → IsSmallest OfOutput (output_made (block_there o) o)
+  unfolding output_made block_there
+  by_output None none = λ r has. no_tree has.0 (part_at ts (layout_of h).output) none has.1
+  by_output (Some t) at =
+      change (OutputHasReason t) OfOutput (output_of_tree (block_of_tree t) t) (λ r has. (t, at, has))
+      (λ r has. subst (λ x. OutputHasReason x r) (same_tree has.0 t (part_at ts (layout_of h).output) has.1 at) has.2)
+      (of_output t)
+
+  output : IsSmallest OfOutput (draft.output_in h ts)
+  output = by_output (part_at ts (layout_of h).output) refl
+
   abbrev OfPrinted : Reason → Type 0
-  OfPrinted = Or (Of (draft.output_in h ts)) (Of (draft.attributes_in h ts))
+  OfPrinted = Or OfOutput (Of (draft.attributes_in h ts))
 
   printed : IsSmallest OfPrinted (printed_in (block_in h ts) h ts)
   unfolding printed_in
-  printed = with (Of (draft.output_in h ts)) (Of (draft.attributes_in h ts)) printed_with (draft.output_in h ts) (draft.attributes_in h ts) (alone _) (alone _)
+  printed = with OfOutput (Of (draft.attributes_in h ts)) printed_with (draft.output_in h ts) (draft.attributes_in h ts) output (alone _)
 
   abbrev OfDefined : Reason → Type 0
   OfDefined = Or (Or (Of (draft.test_in constants h ts)) (Of (draft.class_in h ts))) (Or (Of (draft.values_in h ts)) (Of (draft.default_in h ts)))
@@ -66,7 +89,7 @@ module _ (constants : List Constant) (values : List (List ℕ)) (h : FormHead) (
     to r (inl (inr (inl e))) = HasReason.split_condition r is e
     to r (inl (inr (inr (inl e)))) = HasReason.sequence r is e
     to r (inl (inr (inr (inr e)))) = HasReason.statements r is e
-    to r (inr (inl (inl e))) = HasReason.output r is e
+    to r (inr (inl (inl has))) = HasReason.output has.0 r is has.1 has.2
     to r (inr (inl (inr e))) = HasReason.attributes r is e
     to r (inr (inr (inl (inl e)))) = HasReason.test r is e
     to r (inr (inr (inl (inr e)))) = HasReason.class r is e
@@ -83,7 +106,7 @@ module _ (constants : List Constant) (values : List (List ℕ)) (h : FormHead) (
     from r (HasReason.split_condition _ _ e) = inl (inr (inl e))
     from r (HasReason.sequence _ _ e) = inl (inr (inr (inl e)))
     from r (HasReason.statements _ _ e) = inl (inr (inr (inr e)))
-    from r (HasReason.output _ _ e) = inr (inl (inl e))
+    from r (HasReason.output t _ _ at has) = inr (inl (inl (t, at, has)))
     from r (HasReason.attributes _ _ e) = inr (inl (inr e))
     from r (HasReason.test _ _ e) = inr (inr (inl (inl e)))
     from r (HasReason.class _ _ e) = inr (inr (inl (inr e)))
@@ -101,7 +124,7 @@ module _ (constants : List Constant) (values : List (List ℕ)) (h : FormHead) (
   only_parts wrong r (HasReason.split_condition _ is _) = absurd (true≢false (sym is ∙ wrong))
   only_parts wrong r (HasReason.sequence _ is _) = absurd (true≢false (sym is ∙ wrong))
   only_parts wrong r (HasReason.statements _ is _) = absurd (true≢false (sym is ∙ wrong))
-  only_parts wrong r (HasReason.output _ is _) = absurd (true≢false (sym is ∙ wrong))
+  only_parts wrong r (HasReason.output _ _ is _ _) = absurd (true≢false (sym is ∙ wrong))
   only_parts wrong r (HasReason.attributes _ is _) = absurd (true≢false (sym is ∙ wrong))
   only_parts wrong r (HasReason.test _ is _) = absurd (true≢false (sym is ∙ wrong))
   only_parts wrong r (HasReason.class _ is _) = absurd (true≢false (sym is ∙ wrong))

@@ -3,6 +3,7 @@ pub mod Layout
 pub mod Patterns
 pub mod Conditions
 pub mod Outputs
+pub mod OutputReasons
 pub mod Parts
 pub mod Compact
 pub mod Draft

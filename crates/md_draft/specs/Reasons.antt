@@ -8,7 +8,8 @@ use Rattle.md_pattern.specs.declared.reason.Reason.{Reason}
 use Rattle.md_pattern.specs.declared.reason.Reason.TheVariants as reason
 use Rattle.md_draft.specs.declared.head.FormHead.{FormHead}
 use Rattle.md_draft.specs.Head.{head_named}
-use Rattle.md_draft.specs.Layout.{layout_of, is_whole}
+use Rattle.md_draft.specs.Layout.{layout_of, part_at, is_whole}
+use Rattle.md_draft.specs.OutputReasons.{OutputHasReason}
 use Rattle.md_draft.specs.Draft as draft
 use Rattle.md_draft.specs.Draft.{head_in}
 
@@ -30,7 +31,8 @@ pub data HasReason (constants : List Constant) (values : List (List ℕ)) (h : F
       draft.sequence_in constants h ts ≡ Err r → HasReason constants values h ts r
   statements : (r : Reason) → is_whole (layout_of h) ts ≡ true →
       draft.statements_in constants h ts ≡ Err r → HasReason constants values h ts r
-  output : (r : Reason) → is_whole (layout_of h) ts ≡ true → draft.output_in h ts ≡ Err r →
+  output : (t : Tree) (r : Reason) → is_whole (layout_of h) ts ≡ true →
+      part_at ts (layout_of h).output ≡ Some t → OutputHasReason t r →
       HasReason constants values h ts r
   attributes : (r : Reason) → is_whole (layout_of h) ts ≡ true → draft.attributes_in h ts ≡ Err r →
       HasReason constants values h ts r

@@ -10,7 +10,7 @@ use Rattle.md_iter.specs.declared.definition.DefinitionKind.TheVariants.{Mode, C
 use Rattle.md_iter.specs.declared.definition.Entry.{Entry}
 use Rattle.md_iter.specs.declared.definition.IteratorAttribute.{IteratorAttribute}
 use Rattle.md_iter.specs.declared.definition.Definitions.{Definitions}
-use Rattle.md_iter.specs.Shape.{cut}
+use Rattle.text_words.specs.Cut.{cut}
 use Rattle.md_iter.specs.Definition.{same_kind, either}
 use Rattle.md_iter.specs.Choice.{Chosen}
 

@@ -11,7 +11,7 @@ use Rattle.md_iter.specs.declared.definition.DefinitionKind.{DefinitionKind}
 use Rattle.md_iter.specs.declared.definition.DefinitionKind.TheVariants.{Mode, Code, Int}
 use Rattle.md_iter.specs.declared.definition.Value.{Value}
 use Rattle.md_iter.specs.declared.definition.FormIterator.{FormIterator}
-use Rattle.md_iter.specs.Shape.{cut}
+use Rattle.text_words.specs.Cut.{cut}
 use Rattle.md_iter.specs.Definition.{same_kind}
 
 -- an iterator with the value that it has in a substitution

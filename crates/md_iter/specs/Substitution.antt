@@ -13,7 +13,7 @@ use Rattle.md_iter.specs.declared.definition.DefinitionKind.{DefinitionKind}
 use Rattle.md_iter.specs.declared.definition.DefinitionKind.TheVariants.{Mode, Code, Int}
 use Rattle.md_iter.specs.declared.definition.Definitions.{Definitions}
 use Rattle.md_iter.specs.declared.substitution.Instance.{Instance}
-use Rattle.md_iter.specs.Shape.{cut}
+use Rattle.text_words.specs.Cut.{cut}
 use Rattle.md_iter.specs.Choice.{Chosen, is_iterator, from_head}
 use Rattle.md_iter.specs.Attribute.{filling}
 use Rattle.md_iter.specs.Angles.{filled}

@@ -8,11 +8,10 @@ ghost use Rattle.md_iter.specs.Choice.{chosen_of};
 use crate::choice::Choice;
 use crate::definition::{DefinitionKind, Definitions, Entry, IteratorAttribute};
 use crate::kinded::KindedItems;
-use crate::shape::cut;
 use name_places::NameTable;
 use plain_data::Memory;
 use rtx_tree::Name;
-use text_words::same;
+use text_words::{cut, same};
 
 /// A text that stands for `<..>`.
 #[derive(Clone, Copy)]

@@ -8,11 +8,10 @@ ghost use Rattle.md_iter.specs.machine.Steps as steps;
 
 use crate::definition::{DefinitionKind, FormIterator, Value};
 use crate::kinded::KindedItems;
-use crate::shape::cut;
 use lisp_read::Tree;
 use plain_data::Memory;
 use std::alloc::Global;
-use text_words::same;
+use text_words::{cut, same};
 
 /// An iterator with the value that it has in a substitution.
 #[derive(Clone, Copy)]

@@ -1,4 +1,4 @@
-//! The trees of vectors, and texts cut at a byte.
+//! The trees of vectors.
 ghost use Rattle.std.specs.Prelude.{◌≡◌, option_map};
 ghost use Rattle.md_iter.specs.Shape as spec;
 
@@ -12,17 +12,4 @@ pub fn vector(tree: &Tree) -> Option<&[Tree]>
         Tree::Vector { items, .. } => Some(items.as_slice()),
         _ => None,
     }
-}
-
-/// What stands before and behind the first of a byte.
-pub fn cut(text: &[u8], byte: u8) -> Option<(&[u8], &[u8])>
-    ensures { option_map (λ parts.
-        (parts.0.now, parts.1.now)) result ≡ spec.cut byte text.entry.now }
-{
-    for (at, other) in text.iter().enumerate() {
-        if *other == byte {
-            return Some((&text[..at], &text[at + 1..]));
-        }
-    }
-    None
 }

@@ -9,13 +9,12 @@ ghost use Rattle.md_iter.specs.machine.Steps as steps;
 use crate::angles::filled;
 use crate::choice::Choice;
 use crate::definition::{DefinitionKind, Definitions};
-use crate::shape::cut;
 use lisp_read::{Tree, Trees};
 use name_places::constant_named;
 use plain_data::{Items, Memory};
 use rtx_tree::Name;
 use std::alloc::Global;
-use text_words::{print_number, same};
+use text_words::{cut, print_number, same};
 
 /// A form with values in the places of its iterators.
 #[derive(Drop)]

@@ -7,12 +7,10 @@ use Rattle.rtx_tree.specs.declared.code.Code.TheVariants.{Reg, ConstInt, Plus}
 use Rattle.rtx_tree.specs.declared.tree.Rtx.{Rtx, out-Rtx}
 use Rattle.rtx_tree.specs.Registers.{virtual_stack_vars}
 use Rattle.rtx_tree.specs.Tree.{is_reg_numbered}
+pub use Rattle.rtx_tree.specs.Tree.{is_stack_vars}
 use Rattle.rv_regs.specs.Registers.{stack_pointer}
 
 -- ---- the parts of addresses
-
-abbrev pub is_stack_vars : Rtx → Bool
-is_stack_vars x = is_reg_numbered (out-Rtx x).code (out-Rtx x).number virtual_stack_vars
 
 abbrev pub is_stack_pointer : Rtx → Bool
 is_stack_pointer x = is_reg_numbered (out-Rtx x).code (out-Rtx x).number stack_pointer

@@ -3,21 +3,17 @@
 use Rattle.std.specs.Prelude.{ℕ, ℤ, pos, negsuc, int_le, Bool, true, false, ◌&&◌, ◌||◌, List, [], ◌∷◌, Option, Some, None, if◌then◌else◌, codes}
 use Rattle.std.specs.Str.{bytes_eq}
 use Rattle.rtx_tree.specs.declared.code.Code.{Code}
-use Rattle.rtx_tree.specs.declared.code.Code.TheVariants.{Reg, ConstInt, SymbolRef, Mem, Subreg}
+use Rattle.rtx_tree.specs.declared.code.Code.TheVariants.{Reg, SymbolRef, Mem, Subreg}
 use Rattle.rtx_tree.specs.declared.code.Mode.{Mode}
 use Rattle.rtx_tree.specs.declared.code.Mode.TheVariants.{Void, QI, HI, SI, DI}
-use Rattle.rtx_tree.specs.declared.class.Class.{Class}
-use Rattle.rtx_tree.specs.declared.class.Class.TheVariants.{Comparison}
 use Rattle.rtx_tree.specs.declared.tree.Rtx.{Rtx, out-Rtx}
-use Rattle.rtx_tree.specs.Code.{class_of_code, mode_name}
+use Rattle.rtx_tree.specs.Code.{class_of_code, is_comparison_class, same_mode}
+pub use Rattle.rtx_tree.specs.Tree.{is_constant_code, is_constant}
 use Rattle.md_operand.specs.Addresses.{is_legitimate_address, is_far_address, is_frame_reference, is_base}
 use Rattle.md_operand.specs.declared.own.Own.{Own}
 use Rattle.md_operand.specs.declared.own.Own.TheVariants as own
 
 -- ---- modes
-
-abbrev pub same_mode : Mode → Mode → Bool
-same_mode a b = bytes_eq (mode_name a) (mode_name b)
 
 -- a mode that is none asks for nothing
 abbrev pub accepts_mode : Mode → Mode → Bool
@@ -37,13 +33,6 @@ is_register_by _ x kids = false
 -- a register other than virtual-stack-vars, or the low part of one
 abbrev pub is_register : Rtx → Bool
 is_register x = is_register_by (out-Rtx x).code x (out-Rtx x).kids
-
-abbrev pub is_constant_code : Code → Bool
-is_constant_code ConstInt = true
-is_constant_code _ = false
-
-abbrev pub is_constant : Rtx → Bool
-is_constant x = is_constant_code (out-Rtx x).code
 
 abbrev pub is_symbol_code : Code → Bool
 is_symbol_code SymbolRef = true
@@ -67,10 +56,6 @@ is_far_by _ kids = false
 -- memory at a far address
 abbrev pub is_far : Rtx → Bool
 is_far x = is_far_by (out-Rtx x).code (out-Rtx x).kids
-
-abbrev pub is_comparison_class : Class → Bool
-is_comparison_class Comparison = true
-is_comparison_class _ = false
 
 -- a code of the class of comparisons
 abbrev pub is_comparison_code : Code → Bool

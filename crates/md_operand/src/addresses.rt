@@ -5,13 +5,6 @@ ghost use Rattle.md_operand.specs.Addresses as spec;
 use rtx_tree::{Code, Rtx, VIRTUAL_STACK_VARS};
 use rv_regs::STACK_POINTER;
 
-/// Whether an expression is `virtual-stack-vars`.
-pub fn is_stack_vars(x: &Rtx) -> bool
-    ensures { result ≡ spec.is_stack_vars x.now }
-{
-    matches!(x.code, Code::Reg) && x.number == i64::from(VIRTUAL_STACK_VARS)
-}
-
 fn is_stack_pointer(x: &Rtx) -> bool
     ensures { result ≡ spec.is_stack_pointer x.now }
 {
@@ -62,8 +55,8 @@ pub fn frame_reference(x: &Rtx) -> bool
     ensures { result ≡ spec.is_frame_reference x.now }
 {
     match (x.code, x.kids.as_slice()) {
-        (Code::Plus, [base, offset]) => is_stack_vars(base) && is_any_constant(offset),
-        _ => is_stack_vars(x),
+        (Code::Plus, [base, offset]) => base.is_stack_vars() && is_any_constant(offset),
+        _ => x.is_stack_vars(),
     }
 }
 

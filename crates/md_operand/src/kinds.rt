@@ -36,13 +36,6 @@ pub fn is_register(x: &Rtx) -> bool
     }
 }
 
-/// Whether `x` is a constant.
-pub fn is_constant(x: &Rtx) -> bool
-    ensures { result ≡ spec.is_constant x.now }
-{
-    matches!(x.code, Code::ConstInt)
-}
-
 /// Whether `x` is a symbol's address.
 pub fn is_symbol(x: &Rtx) -> bool
     ensures { result ≡ spec.is_symbol x.now }

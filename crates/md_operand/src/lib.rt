@@ -3,7 +3,7 @@
 //!
 //! [`Own`] names the predicates, [`Own::named`] finds one by its name, and [`Own::accepts`] says
 //! which trees it accepts in a mode. The kinds of operands whatever their mode, as constraints ask
-//! for them, are [`is_register`], [`is_memory`], [`is_constant`] and [`is_symbol`].
+//! for them, are [`is_register`], [`is_memory`] and [`is_symbol`].
 //! [`legitimate_address`], [`far_address`] and [`frame_reference`] are true exactly where an
 //! expression is such an address, and [`is_far`] where it is memory at a far one, which a predicate
 //! accepts but no load and no store reaches by itself. Each call gives what its definition in
@@ -14,8 +14,6 @@ mod addresses;
 mod kinds;
 mod own;
 
-pub use addresses::{
-    far_address, frame_reference, is_any_constant, is_stack_vars, legitimate_address,
-};
-pub use kinds::{has_mode, is_constant, is_far, is_memory, is_register, is_symbol};
+pub use addresses::{far_address, frame_reference, is_any_constant, legitimate_address};
+pub use kinds::{has_mode, is_far, is_memory, is_register, is_symbol};
 pub use own::Own;

@@ -4,9 +4,7 @@ ghost use Rattle.md_operand.specs.declared.own.Own.TheVariants as owns;
 ghost use Rattle.md_operand.specs.Operand as spec;
 
 use crate::addresses::{frame_reference, legitimate_address};
-use crate::kinds::{
-    accepts_mode, has_mode, is_comparison, is_constant, is_memory, is_register, is_symbol,
-};
+use crate::kinds::{accepts_mode, has_mode, is_comparison, is_memory, is_register, is_symbol};
 use rtx_tree::{Mode, Rtx};
 
 /// A predicate that is there without a definition.
@@ -65,7 +63,7 @@ fn register_operand(mode: Mode, x: &Rtx) -> bool
 fn const_int_operand(mode: Mode, x: &Rtx) -> bool
     ensures { result ≡ spec.const_int_operand mode x.now }
 {
-    is_constant(x) && is_extended(mode, x.number)
+    x.is_constant() && is_extended(mode, x.number)
 }
 
 fn symbol_operand(mode: Mode, x: &Rtx) -> bool

@@ -1,3 +1,4 @@
 pub mod Operand
 pub mod Sequence
 pub mod Filled
+pub mod Read

@@ -14,7 +14,7 @@ use crate::definitions::Definition;
 use crate::step::{At, Step};
 use crate::table::PredTable;
 use md_forms::FormHead;
-use md_operand::{Own, has_mode, is_constant};
+use md_operand::{Own, has_mode};
 use pred_rows::{Node, condition_holds, has_code};
 use rtx_tree::{Mode, Name, Rtx};
 
@@ -22,7 +22,7 @@ use rtx_tree::{Mode, Name, Rtx};
 fn is_of_mode(mode: Mode, x: &Rtx) -> bool
     ensures { result ≡ spec.is_of_mode mode x.now }
 {
-    has_mode(mode, x) || is_constant(x)
+    has_mode(mode, x) || x.is_constant()
 }
 
 /// Whether a definition's head lets a tree through in a mode.

@@ -1,8 +1,10 @@
 -- What the forms of a description define for one another. Of a name that is defined twice the first
 -- definition counts, also where it is set aside.
 use Rattle.std.specs.Prelude.{ℕ, Bool, true, false, List, [], ◌∷◌, Option, Some, None, Result, Ok, Err, map, length, option_and_then, if◌then◌else◌}
-use Rattle.std.specs.List.{filter_map, find, list_all, list_any}
+use Rattle.std.specs.List.{filter_map, list_all, list_any}
+use Rattle.std.specs.Option.{option_map_or}
 use Rattle.std.specs.Str.{bytes_eq}
+use Rattle.name_places.specs.Names.{first_named}
 use Rattle.md_pattern.specs.declared.reason.Reason.{Reason}
 use Rattle.md_draft.specs.declared.head.FormHead.{FormHead}
 use Rattle.md_draft.specs.declared.head.FormHead.TheVariants as head
@@ -65,8 +67,8 @@ constraints_of known es = filter_map (constraint_of known) es
 
 -- the first of a name is accepted
 abbrev pub is_constraint : List ConstraintDraft → List ℕ → Bool
-is_constraint [] name = false
-is_constraint (d ∷ ds) name = if bytes_eq d.name name then d.accepted else is_constraint ds name
+is_constraint ds name =
+    option_map_or (λ d. d.accepted) (first_named (λ d. d.name) ds name) false
 
 -- ---- attributes
 
@@ -86,7 +88,7 @@ unfoldable pub attributes_of : List DraftEntry → List AttributeDraft
 attributes_of es = filter_map attribute_of es
 
 abbrev pub attribute_named : List AttributeDraft → List ℕ → Option AttributeDraft
-attribute_named ds name = find (λ d. bytes_eq d.name name) ds
+attribute_named ds name = first_named (λ d. d.name) ds name
 
 -- ---- all of them
 

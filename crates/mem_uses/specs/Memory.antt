@@ -8,17 +8,13 @@ use Rattle.rtx_tree.specs.declared.tree.Rtx.{Rtx}
 use Rattle.rtx_tree.specs.declared.tree.Rtx.TheOpen.{Rtx-F}
 use Rattle.rtx_tree.specs.declared.tree.Rtx.TheFolds.{fold-Rtx}
 use Rattle.rtx_tree.specs.declared.function.Insn.{Insn}
-use Rattle.rtx_tree.specs.Tree.{head_of, kids_of}
+use Rattle.rtx_tree.specs.Tree.{head_of, kids_of, is_memory_code}
 use Rattle.reg_uses.specs.Effects.{effects_of}
 
 -- ---- expressions
 
-abbrev pub is_mem_code : Code → Bool
-is_mem_code Mem = true
-is_mem_code _ = false
-
 abbrev pub memory_step : Rtx-F Bool → Bool
-memory_step x = is_mem_code x.code || list_any (λ here. here) x.kids
+memory_step x = is_memory_code x.code || list_any (λ here. here) x.kids
 
 -- memory stands in an expression
 abbrev pub has_memory : Rtx → Bool
@@ -45,7 +41,7 @@ abbrev pub effect_loads : Rtx → Bool
 effect_loads x = effect_loads_by (head_of x).code (kids_of x) x
 
 abbrev pub effect_stores_by : Code → List Rtx → Bool
-effect_stores_by Set (place ∷ parts) = is_mem_code (head_of place).code
+effect_stores_by Set (place ∷ parts) = is_memory_code (head_of place).code
 effect_stores_by _ parts = false
 
 -- a `set` of memory

@@ -2,8 +2,7 @@
 -- "Machine-Independent Predicates".
 use Rattle.std.specs.Prelude.{◌≡◌, ℕ, pos, int_le, int_lt, ◌||◌, ◌&&◌, not, Bool, true, false, List, [], ◌∷◌, find, Option, None, option_map}
 use Rattle.std.specs.List.{list_any}
-use Rattle.std.specs.Str.{bytes_eq}
-use Rattle.rtx_tree.specs.Code.{code_name, mode_bits}
+use Rattle.rtx_tree.specs.Code.{mode_bits, same_code}
 use Rattle.rtx_tree.specs.declared.code.Code.{Code}
 use Rattle.rtx_tree.specs.declared.code.Code.TheVariants as code
 use Rattle.rtx_tree.specs.declared.code.Mode.{Mode}
@@ -58,9 +57,6 @@ are_two a b (x ∷ y ∷ []) = is_part a x && is_part b y
 are_two a b kids = false
 
 -- ---- sources
-
-abbrev pub same_code : Code → Code → Bool
-same_code a b = bytes_eq (code_name a) (code_name b)
 
 -- an operation of a code and a mode
 abbrev pub is_operation : Code → Mode → Rtx → Bool

@@ -3,7 +3,7 @@ ghost use Rattle.std.specs.Prelude.{◌≡◌};
 ghost use Rattle.plain_shape.specs.Plain as spec;
 
 use crate::shape::{Part, Source};
-use md_operand::{Own, has_mode, is_constant, is_symbol};
+use md_operand::{Own, has_mode, is_symbol};
 use rtx_tree::{Code, Mode, Rtx};
 
 fn is_register_or_constant(mode: Mode, x: &Rtx) -> bool
@@ -15,7 +15,7 @@ fn is_register_or_constant(mode: Mode, x: &Rtx) -> bool
 fn is_count_in(mode: Mode, x: &Rtx) -> bool
     ensures { result ≡ spec.is_count_in mode x.now }
 {
-    is_constant(x) && (0 <= x.number && x.number < i64::from(mode.bits()))
+    x.is_constant() && (0 <= x.number && x.number < i64::from(mode.bits()))
 }
 
 fn is_count(mode: Mode, x: &Rtx) -> bool
@@ -94,7 +94,7 @@ pub fn is_call(part: Part, x: &Rtx) -> bool
     ensures { result ≡ spec.is_call part x.now }
 {
     match (x.code, x.kids.as_slice()) {
-        (Code::Call, [place, size]) => is_target(part, place) && is_constant(size),
+        (Code::Call, [place, size]) => is_target(part, place) && size.is_constant(),
         _ => false,
     }
 }
@@ -120,7 +120,7 @@ fn is_uid(kids: &[Rtx]) -> bool
     ensures { result ≡ spec.is_uid kids.now }
 {
     match kids {
-        [uid] => is_constant(uid),
+        [uid] => uid.is_constant(),
         _ => false,
     }
 }

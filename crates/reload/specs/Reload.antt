@@ -16,7 +16,9 @@ use Rattle.md_forms.specs.declared.form.Form.{Form}
 use Rattle.md_forms.specs.declared.form.Entry.{Entry}
 use Rattle.md_forms.specs.Forms.{names_of}
 use Rattle.md_pattern.specs.declared.reason.Reason.{Reason}
-use Rattle.md_desc.specs.Recog.{IsFirst, MatchesAt, NoneMatches}
+use Rattle.md_desc.specs.Recog.{IsFirst}
+use Rattle.form_needs.specs.Matched.{IsUnmatched}
+pub use Rattle.form_needs.specs.Matched.{IsMatched}
 use Rattle.form_needs.specs.Needs.{name_at, needs_form, lower_facts}
 use Rattle.assign.specs.declared.home.HomeOf.{HomeOf}
 use Rattle.assign.specs.declared.places.Layout.{Layout}
@@ -87,18 +89,12 @@ abbrev pub moves_of : Given → Plan → List Rtx
 moves_of given plan =
     insns_before given.operands plan.parts ++ insns_after given.operands plan.parts
 
--- some form matches a move
-pub record IsMatched (forms : List Entry) (x : Rtx) : Type 0 where
-  pub form : ℕ
-  pub operands : Ops
-  pub matches : MatchesAt forms lower_facts x form operands
-
 -- the first of some moves that no form matches, and those before it
 pub record IsStuck (forms : List Entry) (moves before : List Rtx) (x : Rtx) : Type 0 where
   pub behind : List Rtx
   pub moves_are : moves ≡ before ++ x ∷ behind
   pub matched : All (IsMatched forms) before
-  pub unmatched : NoneMatches forms lower_facts x
+  pub unmatched : IsUnmatched forms x
 
 -- ---- its window
 
@@ -136,7 +132,7 @@ pub data InsnReloads (forms : List Entry) (homes : List HomeOf) (layout : Layout
   stays : needs_form i ≡ false →
       InsnReloads forms homes layout uid i (Ok (with_pattern i (alone homes layout i) ∷ []))
   -- no form matches it
-  unmatched : needs_form i ≡ true → NoneMatches forms lower_facts (placed layout i) →
+  unmatched : needs_form i ≡ true → IsUnmatched forms (placed layout i) →
       InsnReloads forms homes layout uid i (Err (refusal.Unmatched i.uid (placed layout i)))
   -- a form matches it
   matched : (form : ℕ) (pattern : Rtx) (found : Ops) (answer : InsnAnswer) → needs_form i ≡ true →

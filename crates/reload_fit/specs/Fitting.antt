@@ -4,11 +4,12 @@ use Rattle.std.specs.Prelude.{ℕ, ℤ, ◌+◌, ◌==◌, Bool, true, false, no
 use Rattle.std.specs.List.{list_any, find, filter_map, position_from}
 use Rattle.std.specs.Option.{option_map, option_map_or}
 use Rattle.rtx_tree.specs.declared.code.Code.{Code}
-use Rattle.rtx_tree.specs.declared.code.Code.TheVariants.{Mem, Plus}
+use Rattle.rtx_tree.specs.declared.code.Code.TheVariants.{Plus}
 use Rattle.rtx_tree.specs.declared.code.Mode.{Mode}
 use Rattle.rtx_tree.specs.declared.code.Mode.TheVariants.{DI}
 use Rattle.rtx_tree.specs.declared.tree.Rtx.{Rtx, out-Rtx}
 use Rattle.rtx_tree.specs.Tree.{mentions_reg}
+pub use Rattle.rtx_tree.specs.Tree.{is_memory_code}
 use Rattle.c_eval.specs.Value.{same_tree}
 use Rattle.md_text.specs.declared.constraint.Letter.{Letter}
 use Rattle.md_text.specs.declared.constraint.Letter.TheVariants as letter
@@ -19,7 +20,7 @@ use Rattle.md_forms.specs.declared.form.OperandConstraint.{OperandConstraint}
 use Rattle.md_forms.specs.declared.form.Entry.{Entry}
 use Rattle.md_desc.specs.md_attr.Alternatives.{form_at}
 use Rattle.md_desc.specs.md_pred.Holds.{holds}
-use Rattle.reload_operands.specs.md_constr.Admits.{register_of}
+use Rattle.reload_operands.specs.md_constr.Early as early
 use Rattle.reload_operands.specs.md_constr.Fits.{number_admits}
 use Rattle.reload_operands.specs.declared.operand.Base.{Base}
 use Rattle.reload_operands.specs.declared.operand.Operand.{Operand}
@@ -61,19 +62,23 @@ abbrev pub is_early : Option Alternative → Bool
 is_early None = false
 is_early (Some a) = a.early
 
+-- an input mentions a register
+abbrev pub mentions_as_input : Operand → ℕ → Bool
+mentions_as_input y reg = y.is_input && mentions_reg reg y.tree
+
 -- an input other than the operand with a number mentions a register
 abbrev pub is_shared : List Operand → ℕ → ℕ → Bool
 is_shared operands number reg =
-    list_any (λ y. y.is_input && (not (y.number == number) && mentions_reg reg y.tree)) operands
+    early.is_shared (λ y. y.number) mentions_as_input operands number reg
 
--- a register shares itself with an input; what is in memory shares none
+-- a register shares itself with an input
 abbrev pub shares_register : List Operand → Operand → Bool
-shares_register operands x = option_map_or (is_shared operands x.number) (register_of x.tree) false
+shares_register operands x = early.shares_register (is_shared operands x.number) x.tree
 
 -- an operand that is changed before all inputs are taken shares a register with an input
 abbrev pub clashes : Option Alternative → List Operand → Operand → Bool
 clashes asked operands x =
-    is_early asked && ((x.is_output || x.is_clobbered) && shares_register operands x)
+    early.clashes (is_early asked) (x.is_output || x.is_clobbered) (shares_register operands x)
 
 -- the low part of a slot is no memory that an instruction names
 abbrev pub is_part_of_slot : Operand → Bool
@@ -96,10 +101,6 @@ asks_address _ = false
 abbrev pub has_address_letter : Option Alternative → Bool
 has_address_letter None = false
 has_address_letter (Some a) = list_any asks_address a.members
-
-abbrev pub is_memory_code : Code → Bool
-is_memory_code Mem = true
-is_memory_code _ = false
 
 abbrev pub is_memory : Rtx → Bool
 is_memory x = is_memory_code (out-Rtx x).code

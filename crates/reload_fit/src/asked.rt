@@ -2,7 +2,6 @@
 ghost use Rattle.std.specs.Prelude.{◌≡◌, ◌==◌};
 ghost use Rattle.std.specs.List.{find, list_any};
 ghost use Rattle.std.specs.Option.{option_copied};
-ghost use Rattle.rtx_tree.specs.Tree.{mentions_reg};
 ghost use Rattle.reload_operands.specs.md_constr.Admits.{register_of};
 ghost use Rattle.reload_fit.specs.Fitting as spec;
 
@@ -70,10 +69,10 @@ pub fn is_early(asked: Option<&Alternative>) -> bool
     }
 }
 
-fn mentions(x: &Operand, reg: u32) -> bool
-    ensures { result ≡ mentions_reg reg x.now.tree }
+fn mentions_as_input(y: &Operand, reg: u32) -> bool
+    ensures { result ≡ spec.mentions_as_input y.now reg }
 {
-    x.tree.mentions(reg)
+    y.is_input && y.tree.mentions(reg)
 }
 
 /// Whether an input other than the operand with a number mentions a register.
@@ -82,7 +81,7 @@ fn is_shared(operands: &[Operand], number: u32, reg: u32) -> bool
 {
     operands
         .iter()
-        .any(|y| y.is_input && y.number != number && mentions(y, reg))
+        .any(|y| y.number != number && mentions_as_input(y, reg))
 }
 
 /// The number of the register that an operand is, or is the low part of.

@@ -4,7 +4,7 @@ ghost use Rattle.std.specs.Int.{int_wrap, w64};
 ghost use Rattle.reload_homes.specs.FrameRefs as spec;
 
 use crate::parts::with_parts;
-use md_operand::{is_any_constant, is_stack_vars};
+use md_operand::is_any_constant;
 use plain_data::{Items, Memory};
 use rtx_tree::{Code, Mode, Rtx};
 use rv_regs::STACK_POINTER;
@@ -55,7 +55,7 @@ fn in_bits(number: i64) -> i64
 fn number_added(base: &Rtx, constant: &Rtx) -> Option<i64>
     ensures { result ≡ spec.number_added base.now constant.now }
 {
-    if is_stack_vars(base) && is_any_constant(constant) {
+    if base.is_stack_vars() && is_any_constant(constant) {
         Some(in_bits(constant.number))
     } else {
         None
@@ -68,7 +68,7 @@ fn frame_offset(x: &Rtx) -> Option<i64>
 {
     match (x.code, x.kids.as_slice()) {
         (Code::Plus, [base, constant]) => number_added(base, constant),
-        _ => { if is_stack_vars(x) { Some(0) } else { None } }
+        _ => { if x.is_stack_vars() { Some(0) } else { None } }
     }
 }
 

@@ -4,10 +4,11 @@ use Rattle.std.specs.Prelude.{ℕ, Bool, true, false, not, ◌&&◌, ◌||◌, n
 use Rattle.std.specs.List.{filter_map, list_any}
 use Rattle.std.specs.Option.{option_map_or}
 use Rattle.rtx_tree.specs.declared.code.Code.{Code}
-use Rattle.rtx_tree.specs.declared.code.Code.TheVariants.{Mem, Set, Clobber}
+use Rattle.rtx_tree.specs.declared.code.Code.TheVariants.{Mem}
 use Rattle.rtx_tree.specs.declared.tree.Rtx.{Rtx}
 use Rattle.rtx_tree.specs.Tree.{head_of, kids_of, mentions_reg}
-use Rattle.md_constr.specs.Inputs.{effects_of, changed_by}
+pub use Rattle.rtx_tree.specs.Tree.{is_memory_code}
+use Rattle.md_constr.specs.Inputs.{effects_of, changed_by, target_of}
 use Rattle.rtl_func.specs.Effects.{parallels_change_once}
 use Rattle.assign.specs.declared.home.HomeOf.{HomeOf}
 use Rattle.reload_homes.specs.Homes.{register_at}
@@ -16,15 +17,6 @@ use Rattle.reload_operands.specs.Directions.{has_number}
 use Rattle.reload_operands.specs.declared.whole.Whole.{Whole}
 
 -- ---- registers of an operand's address
-
-abbrev pub target_by : Code → List Rtx → Option Rtx
-target_by Set (target ∷ source ∷ []) = Some target
-target_by Clobber (target ∷ []) = Some target
-target_by _ parts = None
-
--- what a set or a clobber changes
-abbrev pub target_of : Rtx → Option Rtx
-target_of effect = target_by (head_of effect).code (kids_of effect)
 
 -- the register that an effect changes, or of which it changes the low part
 abbrev pub changed_register : Rtx → Option ℕ
@@ -54,10 +46,6 @@ address_of x = address_by (head_of x).code (kids_of x)
 abbrev pub changes_address : List HomeOf → Rtx → Rtx → Bool → Rtx → Rtx → Bool
 changes_address homes placed with_homes based x x_with_homes =
     option_map_or (changes_in is_hard with_homes) (address_of x_with_homes) false || (not based && option_map_or (changes_in (lives_in_slot homes) placed) (address_of x) false)
-
-abbrev pub is_memory_code : Code → Bool
-is_memory_code Mem = true
-is_memory_code _ = false
 
 -- an effect changes memory
 abbrev pub changes_memory : Rtx → Bool

@@ -10,7 +10,7 @@ use Rattle.rtx_tree.specs.declared.tree.Rtx.{Rtx}
 use Rattle.rtx_tree.specs.declared.tree.Rtx.TheOpen.{Rtx-F}
 use Rattle.rtx_tree.specs.declared.tree.Rtx.TheFolds.{fold-Rtx}
 use Rattle.rtx_tree.specs.Tree.{head_of, kids_of}
-use Rattle.md_constr.specs.Inputs.{effects_of, inputs_in, outputs_in, changed_at, taken_in}
+use Rattle.md_constr.specs.Inputs.{effects_of, inputs_in, outputs_in, clobbered_by, taken_in}
 
 abbrev pub has_number : ℕ → List ℕ → Bool
 has_number k numbers = list_any (λ n. n == k) numbers
@@ -22,13 +22,6 @@ is_input pattern k = has_number k (inputs_in pattern)
 -- an output: an operand that a `set` of the pattern sets, or of which it sets the low part
 abbrev pub is_output : Rtx → ℕ → Bool
 is_output pattern k = has_number k (outputs_in pattern)
-
-abbrev pub clobbered_by_parts : Code → List Rtx → List ℕ
-clobbered_by_parts Clobber (target ∷ []) = changed_at target
-clobbered_by_parts _ parts = []
-
-abbrev pub clobbered_by : Rtx → List ℕ
-clobbered_by effect = clobbered_by_parts (head_of effect).code (kids_of effect)
 
 -- an operand that a `clobber` of the pattern names
 abbrev pub is_clobbered : Rtx → ℕ → Bool

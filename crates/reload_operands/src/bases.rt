@@ -8,7 +8,6 @@ ghost use Rattle.reload_operands.specs.Bases as spec;
 
 use crate::operand::Base;
 use assign::{Home, Homes, Layout};
-use md_operand::is_constant;
 use reload_homes::{home_at, register_at, register_in, slot_offset};
 use rtx_tree::{Code, Mode, Rtx};
 
@@ -66,7 +65,7 @@ fn base_of_sum(homes: &Homes, layout: &Layout, parts: &[Rtx]) -> Option<Base>
 {
     match parts {
         [x, constant] => {
-            if is_constant(constant) {
+            if constant.is_constant() {
                 base_with(homes, layout, constant.number, x)
             } else {
                 None

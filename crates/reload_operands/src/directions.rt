@@ -15,9 +15,10 @@ fn is_numbered(x: &Rtx, number: u32) -> bool
     x.number.cast_unsigned() == u64::from(number)
 }
 
-fn takes_here(x: &Rtx, number: u32) -> bool
+/// Whether an expression itself stands for an operand.
+fn stands_for(x: &Rtx, number: u32) -> bool
     ensures { result ≡
-        spec.has_number number (inputs.taken_here (head_of x.now).code (head_of x.now).number) }
+        spec.has_number number (inputs.operand_here (head_of x.now).code (head_of x.now).number) }
 {
     match x.code {
         Code::MatchOperand | Code::MatchDup | Code::MatchScratch | Code::MatchOperator => {
@@ -32,7 +33,7 @@ fn takes_here(x: &Rtx, number: u32) -> bool
 fn takes(x: &Rtx, number: u32) -> bool
     ensures { result ≡ spec.has_number number (inputs.taken_in x.now) }
 {
-    if takes_here(x, number) {
+    if stands_for(x, number) {
         return true;
     }
     for kid in x.kids.as_slice() {
@@ -108,24 +109,13 @@ pub fn is_input(pattern: &Rtx, number: u32) -> bool
     any_effect_takes(effects_of(pattern), number)
 }
 
-fn changes_whole(x: &Rtx, number: u32) -> bool
-    ensures { result ≡ spec.has_number number (inputs.changed_whole x.now) }
-{
-    match x.code {
-        Code::MatchOperand | Code::MatchDup | Code::MatchScratch | Code::MatchOperator => {
-            is_numbered(x, number)
-        }
-        _ => false,
-    }
-}
-
 /// Whether an operand is a target, or its low part is.
 fn is_target(target: &Rtx, number: u32) -> bool
     ensures { result ≡ spec.has_number number (inputs.changed_at target.now) }
 {
     match (target.code, target.kids.as_slice()) {
-        (Code::Subreg, [inner]) => changes_whole(inner, number),
-        _ => changes_whole(target, number),
+        (Code::Subreg, [inner]) => stands_for(inner, number),
+        _ => stands_for(target, number),
     }
 }
 
@@ -139,7 +129,7 @@ fn is_set_by(effect: &Rtx, number: u32) -> bool
 }
 
 fn is_clobbered_by(effect: &Rtx, number: u32) -> bool
-    ensures { result ≡ spec.has_number number (spec.clobbered_by effect.now) }
+    ensures { result ≡ spec.has_number number (inputs.clobbered_by effect.now) }
 {
     match (effect.code, effect.kids.as_slice()) {
         (Code::Clobber, [target]) => is_target(target, number),
@@ -174,7 +164,7 @@ pub fn is_output(pattern: &Rtx, number: u32) -> bool
 
 fn any_effect_clobbers(effects: &[Rtx], number: u32) -> bool
     ensures { result ≡
-        list_any (λ effect. spec.has_number number (spec.clobbered_by effect)) effects.now }
+        list_any (λ effect. spec.has_number number (inputs.clobbered_by effect)) effects.now }
 {
     effects.iter().any(|effect| is_clobbered_by(effect, number))
 }

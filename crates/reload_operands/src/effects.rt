@@ -1,6 +1,7 @@
 //! What each effect of an instruction changes.
 ghost use Rattle.std.specs.Prelude.{◌≡◌, ◌<◌, ◌^◌, IfSome};
 ghost use Rattle.std.specs.Option.{option_copied};
+ghost use Rattle.md_constr.specs.Inputs as inputs;
 ghost use Rattle.reload_operands.specs.Changes as spec;
 
 use reload_homes::register_at;
@@ -8,7 +9,7 @@ use rtx_tree::{Code, Rtx};
 
 /// What a `set` or a `clobber` changes.
 pub fn target_of(effect: &Rtx) -> Option<&Rtx>
-    ensures { option_copied result ≡ spec.target_of effect.now }
+    ensures { option_copied result ≡ inputs.target_of effect.now }
 {
     match (effect.code, effect.kids.as_slice()) {
         (Code::Set, [target, _]) => Some(target),

@@ -4,6 +4,7 @@
 use Rattle.std.specs.Prelude.{ℕ, ◌||◌, ◌&&◌, ◌==◌, nat_le, nat_lt, not, Bool, true, false, List, [], ◌∷◌}
 use Rattle.std.specs.Int.{cast_unsigned, w64}
 use Rattle.std.specs.List.{list_all}
+pub use Rattle.rtx_tree.specs.Code.{is_constant_class, is_counter_class, is_comparison_class}
 use Rattle.rtx_tree.specs.Code.{class_of_code, is_value_class, is_place_class, is_effect_class, mode_bits}
 use Rattle.rtx_tree.specs.declared.code.Mode.{Mode}
 use Rattle.rtx_tree.specs.declared.code.Mode.TheVariants.{SI, DI}
@@ -36,10 +37,6 @@ is_narrower a b = has_mode a && nat_lt (mode_bits a) (mode_bits b)
 -- ---- what stands for what
 
 -- a constant
-abbrev pub is_constant_class : Class → Bool
-is_constant_class class.Constant = true
-is_constant_class _ = false
-
 abbrev pub is_constant : Rtx → Bool
 is_constant x = is_constant_class (class_at x)
 
@@ -84,14 +81,6 @@ abbrev pub is_jump_source_class : Class → Bool
 is_jump_source_class class.Label = true
 is_jump_source_class class.Branch = true
 is_jump_source_class _ = false
-
-abbrev pub is_counter_class : Class → Bool
-is_counter_class class.Counter = true
-is_counter_class _ = false
-
-abbrev pub is_comparison_class : Class → Bool
-is_comparison_class class.Comparison = true
-is_comparison_class _ = false
 
 abbrev pub is_label_class : Class → Bool
 is_label_class class.Label = true

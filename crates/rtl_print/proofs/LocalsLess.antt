@@ -8,7 +8,8 @@ use Rattle.rtx_tree.specs.declared.code.Code.TheVariants as code
 use Rattle.rtx_tree.specs.declared.function.Insn.{Insn}
 use Rattle.rtx_tree.specs.declared.tree.Rtx.{Rtx, out-Rtx}
 use Rattle.rtl_read.specs.Locals as locals
-use Rattle.rtl_read.specs.Locals.{is_stack_vars, is_constant, depth_below, depth_by, depth_at, deepest_in, locals_in}
+use Rattle.rtl_read.specs.Locals.{depth_below, depth_by, depth_at, deepest_in, locals_in}
+use Rattle.rtx_tree.specs.Tree.{is_stack_vars, is_constant}
 use Rattle.rtl_read.proofs.Depths.{deepest_out}
 use Rattle.rtl_print.proofs.TreeText.{rtx_induction}
 

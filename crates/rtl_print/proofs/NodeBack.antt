@@ -12,7 +12,8 @@ use Rattle.lisp_read.specs.declared.position.Position.TheVariants.{Value, Place,
 use Rattle.lisp_read.specs.declared.tree.Tree.{Tree}
 use Rattle.lisp_read.specs.Shape.{is_nested, is_word, is_text, atom_at, atom_of}
 use Rattle.lisp_read.specs.Parsed.{stands}
-use Rattle.lisp_read.specs.Expression.{meaning_of, read_at, exactly, at_least, lowpart_parts, comparison_parts, setting_parts, positions_of, is_class_number, is_class_counter, is_constant, is_counter, each_at}
+use Rattle.lisp_read.specs.Expression.{meaning_of, read_at, exactly, at_least, lowpart_parts, comparison_parts, setting_parts, positions_of, is_constant, is_counter, each_at}
+use Rattle.rtx_tree.specs.Code.{is_constant_class, is_counter_class}
 use Rattle.tree_print.specs.Print.{nowhere}
 use Rattle.rtl_print.proofs.Induction.{EachAt}
 use Rattle.rtl_print.proofs.Nodes.{same_head, nested_written, all_nested, same_length, kids_length, each_again}
@@ -95,7 +96,7 @@ comparison_again h head (a ∷ b ∷ []) us ps kids e each same = by_test (is_co
         let ps_is : Value ∷ Value ∷ [] ≡ ps = cc in
         let t : Two Value Value a b us = two Value Value a b kids us (subst (λ (x : List Position). EachAt Q x (a ∷ b ∷ []) kids) (sym ps_is) each) same in
         ap (λ (vs : List Tree). comparison_parts (head ∷ vs)) t.is
-        ∙ rw (same_head is_class_number Value a t.u t.x t.first t.same_first) (rw (same_head is_class_number Value b t.v t.y t.second t.same_second) (rw is (ap (λ (x : List Position). Some x) ps_is)))
+        ∙ rw (same_head is_constant_class Value a t.u t.x t.first t.same_first) (rw (same_head is_constant_class Value b t.v t.y t.second t.same_second) (rw is (ap (λ (x : List Position). Some x) ps_is)))
 comparison_again h head _ us ps kids e each same = cc
 
 pub setting_again : (h head : Tree) (ts us : List Tree) (ps : List Position) (kids : List Rtx) → setting_parts (h ∷ ts) ≡ Some ps → EachAt Q ps ts kids → AllSame us (map written kids) → setting_parts (head ∷ us) ≡ Some ps
@@ -105,7 +106,7 @@ setting_again h head (a ∷ b ∷ []) us ps kids e each same = by_test (is_count
     at p q t is parts ps_is =
         let w : Two p q a b us = two p q a b kids us (subst (λ (x : List Position). EachAt Q x (a ∷ b ∷ []) kids) (sym ps_is) each) same in
         ap (λ (vs : List Tree). setting_parts (head ∷ vs)) w.is
-        ∙ rw (same_head is_class_counter p a w.u w.x w.first w.same_first) (rw is (parts ∙ ap (λ (x : List Position). Some x) ps_is))
+        ∙ rw (same_head is_counter_class p a w.u w.x w.first w.same_first) (rw is (parts ∙ ap (λ (x : List Position). Some x) ps_is))
 
     by_test : (t : Bool) → is_counter a ≡ t → cond t (Some (Pc ∷ Jump ∷ [])) (Some (Place ∷ Source ∷ [])) ≡ Some ps → setting_parts (head ∷ us) ≡ Some ps
     by_test true is e = let ps_is : Pc ∷ Jump ∷ [] ≡ ps = cc in at Pc Jump true is refl ps_is

@@ -1,24 +1,13 @@
 -- The locals of a function that doesn't tell their size: GCC Internals, "Registers and Memory"
 -- (`virtual-stack-vars`).
-use Rattle.std.specs.Prelude.{ℕ, suc, ◌&&◌, max, fold, map, ℤ, pos, negsuc, nat_lt, Bool, true, false, List, [], ◌∷◌, if◌then◌else◌}
+use Rattle.std.specs.Prelude.{ℕ, suc, ◌&&◌, max, fold, map, ℤ, pos, negsuc, nat_lt, List, [], ◌∷◌, if◌then◌else◌}
 use Rattle.rtx_tree.specs.declared.code.Code.{Code}
-use Rattle.rtx_tree.specs.declared.code.Code.TheVariants.{Plus, ConstInt}
+use Rattle.rtx_tree.specs.declared.code.Code.TheVariants.{Plus}
 use Rattle.rtx_tree.specs.declared.function.Insn.{Insn}
 use Rattle.rtx_tree.specs.declared.tree.Rtx.{Rtx, out-Rtx, roll-Rtx}
 use Rattle.rtx_tree.specs.declared.tree.Rtx.TheOpen.{Rtx-F}
 use Rattle.rtx_tree.specs.declared.tree.Rtx.TheFolds.{fold-Rtx}
-use Rattle.rtx_tree.specs.Registers.{virtual_stack_vars}
-use Rattle.rtx_tree.specs.Tree.{is_reg_numbered}
-
-abbrev pub is_stack_vars : Rtx → Bool
-is_stack_vars x = is_reg_numbered (out-Rtx x).code (out-Rtx x).number virtual_stack_vars
-
-abbrev pub is_constant_code : Code → Bool
-is_constant_code ConstInt = true
-is_constant_code _ = false
-
-abbrev pub is_constant : Rtx → Bool
-is_constant x = is_constant_code (out-Rtx x).code
+use Rattle.rtx_tree.specs.Tree.{is_constant, is_stack_vars}
 
 -- how far below 0 a number is, where that has 32 bits
 abbrev pub depth_of : ℤ → ℕ

@@ -2,19 +2,7 @@
 ghost use Rattle.std.specs.Prelude.{◌≡◌};
 ghost use Rattle.rtl_read.specs.Locals as spec;
 
-use rtx_tree::{Code, Insn, Rtx, VIRTUAL_STACK_VARS};
-
-fn is_stack_vars(x: &Rtx) -> bool
-    ensures { result ≡ spec.is_stack_vars x.now }
-{
-    matches!(x.code, Code::Reg) && x.number == i64::from(VIRTUAL_STACK_VARS)
-}
-
-fn is_constant(x: &Rtx) -> bool
-    ensures { result ≡ spec.is_constant x.now }
-{
-    matches!(x.code, Code::ConstInt)
-}
+use rtx_tree::{Code, Insn, Rtx};
 
 /// How far below 0 a number is, where that has 32 bits.
 fn depth_of(number: i64) -> u32
@@ -30,7 +18,7 @@ fn depth_of(number: i64) -> u32
 fn depth_below(a: &Rtx, b: &Rtx) -> u32
     ensures { result ≡ spec.depth_below a.now b.now }
 {
-    if is_stack_vars(a) && is_constant(b) {
+    if a.is_stack_vars() && b.is_constant() {
         depth_of(b.number)
     } else {
         0

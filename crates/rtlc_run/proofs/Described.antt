@@ -18,7 +18,7 @@ use Rattle.md_list.proofs.Lists.{one_list}
 use Rattle.md_named.specs.Named.{source_refused, FormsCome}
 use Rattle.md_named.proofs.Forms.{one_answer as one_forms}
 use Rattle.func_input.specs.Outcome.{Outcome}
-use Rattle.func_input.specs.Input.{IsRead, IsInput, FunctionsComeTo, InputComesTo}
+use Rattle.func_input.specs.Input.{IsInput, FunctionsComeTo, InputComesTo}
 use Rattle.func_input.proofs.Inputs.{input_reached, input_last}
 use Rattle.func_input.proofs.One.{one_coming_to}
 use Rattle.pass_name.specs.declared.road.Road.{Road}
@@ -225,15 +225,12 @@ means known left (commands.Made name number) text comes =
 
 -- ---- what the text of an assembly does
 
-is_read : (bytes : List ℕ) (functions : List Function) → IsInput bytes functions → IsRead bytes functions
-is_read bytes functions input = record { within = input.within; trees = input.trees; reads = input.reads; stand = input.stand }
-
 pub writes_same : (known : Source) (left old new : Option (List ℕ)) (name : Option (List ℕ)) (road : Road) (text : List ℕ) → Means known left (commands.Over name (telling.Lines road)) text → Appends old new text → WritesSame left old new
 writes_same known None old new name road text h appends = tt
 writes_same known (Some bytes) old new name road text h appends =
     let told = h.2 in
     let does = input_does_same h.0 road bytes told.0 told.2 (is_described known (described name) h.0 h.1) told.1 told.3 in
-    (told.0, is_read bytes told.0 told.1, text, subst (DoesSame told.0) (sym told.4) does, appends)
+    (told.0, told.1.read, text, subst (DoesSame told.0) (sym told.4) does, appends)
 
 pub writes_framed : (known : Source) (left old new : Option (List ℕ)) (name : Option (List ℕ)) (road : Road) (text : List ℕ) → Means known left (commands.Over name (telling.Lines road)) text → Appends old new text →
     WritesSameFramed known road (described name) left old new
@@ -249,7 +246,7 @@ pub writes_words : (known : Source) (left old new : Option (List ℕ)) (name : O
 writes_words known None old new name text h appends = tt
 writes_words known (Some bytes) old new name text h appends =
     let told : TellsImage h.0 bytes text = h.2 in
-    (told.functions, is_read bytes told.functions told.input, text, does_in_words h.0 bytes text (is_described known (described name) h.0 h.1) told, appends)
+    (told.functions, told.input.read, text, does_in_words h.0 bytes text (is_described known (described name) h.0 h.1) told, appends)
 
 -- ---- which functions have a text
 

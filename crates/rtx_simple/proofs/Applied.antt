@@ -6,9 +6,9 @@ use Rattle.rtx_tree.specs.declared.code.Code.{Code}
 use Rattle.rtx_tree.specs.declared.code.Code.TheVariants as code
 use Rattle.rtx_tree.specs.declared.code.Mode.{Mode}
 use Rattle.rtx_tree.specs.declared.tree.Rtx.{Rtx}
-use Rattle.rtx_tree.specs.Tree.{RtxHead, head_of, kids_of, tree_of, node_of, const_of}
+use Rattle.rtx_tree.specs.Tree.{RtxHead, head_of, kids_of, tree_of, node_of, const_of, is_constant}
 use Rattle.rtx_pool.specs.Trees.{with_kids_turned}
-use Rattle.rtx_simple.specs.Simple.{is_constant, is_zero, is_exchangeable, exchanged_by, constant_second, tested, compared_by, compared_with_zero, wrapping_sum, terms_by, added_by, added, with_added, joined_constants}
+use Rattle.rtx_simple.specs.Simple.{is_zero, is_exchangeable, exchanged_by, constant_second, tested, compared_by, compared_with_zero, wrapping_sum, terms_by, added_by, added, with_added, joined_constants}
 use Rattle.rtx_simple.specs.machine.Tests as tests
 
 -- ---- a constant that goes behind

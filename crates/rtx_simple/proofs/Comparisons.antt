@@ -5,9 +5,9 @@ use Rattle.rtx_tree.specs.declared.code.Code.{Code}
 use Rattle.rtx_tree.specs.declared.code.Code.TheVariants as code
 use Rattle.rtx_tree.specs.declared.code.Mode.{Mode}
 use Rattle.rtx_tree.specs.declared.tree.Rtx.{Rtx}
-use Rattle.rtx_tree.specs.Code.{class_of_code, reversed}
+use Rattle.rtx_tree.specs.Code.{class_of_code, reversed, is_comparison_class}
 use Rattle.rtx_tree.specs.Tree.{head_of, kids_of, node_of}
-use Rattle.rtx_simple.specs.Simple.{is_zero, is_comparison_class, tested, compared_by}
+use Rattle.rtx_simple.specs.Simple.{is_zero, tested, compared_by}
 
 is_reversed : (c own : Code) → reversed c ≡ Some own → is_comparison_class (class_of_code own) ≡ true
 is_reversed code.Eq own is = let same : own ≡ code.Ne = cc in ap (λ k. is_comparison_class (class_of_code k)) same

@@ -9,8 +9,8 @@ use Rattle.rtx_tree.specs.declared.class.Class.{Class}
 use Rattle.rtx_tree.specs.declared.class.Class.TheVariants as class
 use Rattle.rtx_tree.specs.declared.tree.Rtx.{Rtx}
 use Rattle.rtx_tree.specs.Code.{class_of_code, mode_name}
-use Rattle.rtx_tree.specs.Tree.{head_of, kids_of}
-use Rattle.rtx_simple.specs.Simple.{is_constant, is_zero, extended_by, extended, where_constant, extended_constant, terms_by, terms_of, added_by, where_zero, without_zero, lowpart_by, lowpart_of, where_mode, extension_cut, IsSimple}
+use Rattle.rtx_tree.specs.Tree.{head_of, kids_of, is_constant}
+use Rattle.rtx_simple.specs.Simple.{is_zero, extended_by, extended, where_constant, extended_constant, terms_by, terms_of, added_by, where_zero, without_zero, lowpart_by, lowpart_of, where_mode, extension_cut, IsSimple}
 use Rattle.rtx_simple.proofs.Options.{and_some, where_some}
 use Rattle.rtx_simple.proofs.Parts.{AreSimple, kids_simple}
 

@@ -5,9 +5,9 @@ use Rattle.std.specs.Option.{option_or}
 use Rattle.rtx_tree.specs.declared.code.Code.TheVariants as code
 use Rattle.rtx_tree.specs.declared.code.Mode.{Mode}
 use Rattle.rtx_tree.specs.declared.tree.Rtx.{Rtx}
-use Rattle.rtx_tree.specs.Tree.{RtxHead, head_of, kids_of, tree_of, node_of, const_of}
+use Rattle.rtx_tree.specs.Tree.{RtxHead, head_of, kids_of, tree_of, node_of, const_of, is_constant, is_constant_code}
 use Rattle.rtx_tree.proofs.Trees.{kids_of-tree}
-use Rattle.rtx_simple.specs.Simple.{is_constant, is_const_int, extended_constant, terms_by, added_by, added, with_added, wrapping_sum, joined_constants, without_zero, compared_with_zero, extension_cut, is_exchangeable, exchanged_by, constant_second, once, settled, IsSimple}
+use Rattle.rtx_simple.specs.Simple.{extended_constant, terms_by, added_by, added, with_added, wrapping_sum, joined_constants, without_zero, compared_with_zero, extension_cut, is_exchangeable, exchanged_by, constant_second, once, settled, IsSimple}
 use Rattle.rtx_simple.proofs.Hoisted.{constant_simple, zero_simple, cut_simple, added_part}
 use Rattle.rtx_simple.proofs.Options.{or_some, and_some, map_none}
 use Rattle.rtx_simple.proofs.Parts.{AreSimple, simple_by, kids_simple}
@@ -57,7 +57,7 @@ sum_joined mode a n simple none =
     let y = node_of code.Plus mode kids in
     let two = node_kids code.Plus mode kids in record {
       parts = subst AreSimple (sym two) (simple, (number_simple n, tt));
-      second = second_none y a (const_of n) two (ap (λ c. is_constant a && not (is_const_int c)) (constant_is n) ∙ and_false (is_constant a));
+      second = second_none y a (const_of n) two (ap (λ c. is_constant a && not (is_constant_code c)) (constant_is n) ∙ and_false (is_constant a));
       joined =
           ap (λ c. option_and_then (λ (outer : Rtx × ℤ). option_map (with_added (head_of y).mode outer.1) (added outer.0)) (option_and_then added_by (terms_by c (kids_of y)))) (node_code code.Plus mode kids)
           ∙ (ap (λ k. option_and_then (λ (outer : Rtx × ℤ). option_map (with_added (head_of y).mode outer.1) (added outer.0)) (option_and_then added_by (terms_by code.Plus k))) two

@@ -7,10 +7,10 @@ use Rattle.rtx_tree.specs.declared.code.Mode.{Mode}
 use Rattle.rtx_tree.specs.declared.class.Class.{Class}
 use Rattle.rtx_tree.specs.declared.class.Class.TheVariants as class
 use Rattle.rtx_tree.specs.declared.tree.Rtx.{Rtx}
-use Rattle.rtx_tree.specs.Code.{class_of_code}
+use Rattle.rtx_tree.specs.Code.{class_of_code, is_comparison_class}
 use Rattle.rtx_tree.specs.Tree.{RtxHead, head_of, kids_of, node_of, const_of}
 use Rattle.rtx_tree.proofs.Trees.{head_of-tree, kids_of-tree}
-use Rattle.rtx_simple.specs.Simple.{is_zero, extended_by, extended, where_constant, extended_constant, terms_by, added_by, added, with_added, joined_constants, where_zero, without_zero, is_comparison_class, tested, compared_by, compared_with_zero, lowpart_by, where_mode, extension_cut, is_exchangeable, exchanged_by, constant_second, once, IsSimple}
+use Rattle.rtx_simple.specs.Simple.{is_zero, extended_by, extended, where_constant, extended_constant, terms_by, added_by, added, with_added, joined_constants, where_zero, without_zero, tested, compared_by, compared_with_zero, lowpart_by, where_mode, extension_cut, is_exchangeable, exchanged_by, constant_second, once, IsSimple}
 use Rattle.rtx_simple.proofs.Comparisons.{is_test, is_comparison, compared_none}
 use Rattle.rtx_simple.proofs.Options.{or_none, left_none, right_none}
 use Rattle.rtx_simple.proofs.Parts.{AreSimple, simple_by, kids_simple}

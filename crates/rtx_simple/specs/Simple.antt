@@ -4,25 +4,17 @@ use Rattle.std.specs.Prelude.{ℕ, zero, suc, ℤ, pos, ◌+ℤ◌, ◌≡◌, B
 use Rattle.std.specs.Int.{int_wrap, w64}
 use Rattle.std.specs.Option.{option_or}
 use Rattle.std.specs.Ordering.{int_eq}
-use Rattle.std.specs.Str.{bytes_eq}
 use Rattle.rtx_tree.specs.declared.code.Code.{Code}
-use Rattle.rtx_tree.specs.declared.code.Code.TheVariants.{ConstInt, Subreg, Plus, Mult, And, Ior, Xor, Eq, Ne}
+use Rattle.rtx_tree.specs.declared.code.Code.TheVariants.{Subreg, Plus, Mult, And, Ior, Xor, Eq, Ne}
 use Rattle.rtx_tree.specs.declared.code.Mode.{Mode}
 use Rattle.rtx_tree.specs.declared.class.Class.{Class}
 use Rattle.rtx_tree.specs.declared.class.Class.TheVariants as class
 use Rattle.rtx_tree.specs.declared.tree.Rtx.{Rtx, roll-Rtx}
 use Rattle.rtx_tree.specs.declared.tree.Rtx.TheFolds.{fold-Rtx}
-use Rattle.rtx_tree.specs.Code.{class_of_code, mode_name, reversed}
-use Rattle.rtx_tree.specs.Tree.{RtxHead, head_of, kids_of, tree_of, node_of, const_of, part_at}
+use Rattle.rtx_tree.specs.Code.{class_of_code, is_comparison_class, reversed, same_mode}
+use Rattle.rtx_tree.specs.Tree.{RtxHead, is_constant, head_of, kids_of, tree_of, node_of, const_of, part_at}
 
 -- ---- constants
-
-abbrev pub is_const_int : Code → Bool
-is_const_int ConstInt = true
-is_const_int _ = false
-
-abbrev pub is_constant : Rtx → Bool
-is_constant x = is_const_int (head_of x).code
 
 abbrev pub is_zero : Rtx → Bool
 is_zero x = is_constant x && int_eq (head_of x).number (pos 0)
@@ -81,10 +73,6 @@ without_zero x = option_and_then where_zero (terms_of x)
 
 -- ---- (ne C 0) is the comparison C and (eq C 0) its reverse, in the outer mode
 
-abbrev pub is_comparison_class : Class → Bool
-is_comparison_class class.Comparison = true
-is_comparison_class _ = false
-
 -- the comparison that a test of another with 0 is
 abbrev pub tested : Code → Code → Option Code
 tested Ne inner = if is_comparison_class (class_of_code inner) then Some inner else None
@@ -109,7 +97,7 @@ abbrev pub lowpart_of : Rtx → Option Rtx
 lowpart_of x = lowpart_by (head_of x).code (kids_of x)
 
 abbrev pub where_mode : Mode → Rtx → Option Rtx
-where_mode mode a = if bytes_eq (mode_name (head_of a).mode) (mode_name mode) then Some a else None
+where_mode mode a = if same_mode (head_of a).mode mode then Some a else None
 
 unfoldable pub extension_cut : Rtx → Option Rtx
 extension_cut x = option_and_then (where_mode (head_of x).mode) (option_and_then extended (lowpart_of x))

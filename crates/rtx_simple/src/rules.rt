@@ -1,8 +1,7 @@
 //! The rules, one by one. Each says whether it applies, and changes the tree where it does.
 ghost use Rattle.std.specs.Prelude.{◌≡◌, ◌<◌, length, slice_get, slice_set, Some, option_copied, unwrap_or};
 ghost use Rattle.std.specs.Option.{is_some};
-ghost use Rattle.std.specs.Str.{bytes_eq};
-ghost use Rattle.rtx_tree.specs.Code.{mode_name};
+ghost use Rattle.rtx_tree.specs.Code.{same_mode};
 ghost use Rattle.rtx_tree.specs.Tree.{head_of, kids_of, node_of, const_of};
 ghost use Rattle.rtx_simple.specs.Simple as spec;
 ghost use Rattle.rtx_simple.specs.machine.Tests as tests;
@@ -11,16 +10,10 @@ use rtx_pool::{hoist, set_head, swap};
 use rtx_tree::{Class, Code, Mode, Name, Rtx};
 use std::alloc::Global;
 
-fn is_constant(x: &Rtx) -> bool
-    ensures { result ≡ spec.is_constant x.now }
-{
-    matches!(x.code, Code::ConstInt)
-}
-
 fn is_zero(x: &Rtx) -> bool
     ensures { result ≡ spec.is_zero x.now }
 {
-    is_constant(x) && x.number == 0
+    x.is_constant() && x.number == 0
 }
 
 /// The first kid in the place of the tree.
@@ -56,7 +49,7 @@ fn extends_constant(x: &Rtx) -> bool
     ensures { result ≡ is_some (spec.extended_constant x.now) }
 {
     match extended(x) {
-        Some(a) => is_constant(a),
+        Some(a) => a.is_constant(),
         None => false,
     }
 }
@@ -80,7 +73,11 @@ pub fn extended_constant(alloc: Global, x: &mut Rtx) -> bool
 fn constant_of(x: &Rtx) -> Option<i64>
     ensures { result ≡ tests.constant_of x.now }
 {
-    if is_constant(x) { Some(x.number) } else { None }
+    if x.is_constant() {
+        Some(x.number)
+    } else {
+        None
+    }
 }
 
 /// The constant of a sum that has one second.
@@ -239,7 +236,7 @@ fn lowpart_of(x: &Rtx) -> Option<&Rtx>
 }
 
 fn has_mode(x: &Rtx, mode: Mode) -> bool
-    ensures { result ≡ bytes_eq (mode_name (head_of x.now).mode) (mode_name mode) }
+    ensures { result ≡ same_mode (head_of x.now).mode mode }
 {
     x.mode.name() == mode.name()
 }
@@ -287,7 +284,7 @@ fn begins_with_constant(x: &Rtx) -> bool
     ensures { result ≡ is_some (spec.constant_second x.now) }
 {
     match x.kids.as_slice() {
-        [a, b] => is_exchangeable(x.code) && is_constant(a) && !is_constant(b),
+        [a, b] => is_exchangeable(x.code) && a.is_constant() && !b.is_constant(),
         _ => false,
     }
 }

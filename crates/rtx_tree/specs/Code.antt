@@ -223,6 +223,25 @@ is_effect_class class.Call = true
 is_effect_class class.Return = true
 is_effect_class _ = false
 
+-- a number
+abbrev pub is_constant_class : Class → Bool
+is_constant_class class.Constant = true
+is_constant_class _ = false
+
+-- the program counter
+abbrev pub is_counter_class : Class → Bool
+is_counter_class class.Counter = true
+is_counter_class _ = false
+
+-- a comparison of two values
+abbrev pub is_comparison_class : Class → Bool
+is_comparison_class class.Comparison = true
+is_comparison_class _ = false
+
+-- codes are the same where their names are
+abbrev pub same_code : Code → Code → Bool
+same_code a b = bytes_eq (code_name a) (code_name b)
+
 -- ---- the modes
 
 -- the name of a mode, which stands behind the code and a colon; no mode has no name
@@ -232,6 +251,10 @@ mode_name QI = codes "QI"
 mode_name HI = codes "HI"
 mode_name SI = codes "SI"
 mode_name DI = codes "DI"
+
+-- modes are the same where their names are
+abbrev pub same_mode : Mode → Mode → Bool
+same_mode a b = bytes_eq (mode_name a) (mode_name b)
 
 -- the modes that have a name
 abbrev pub named_modes : List Mode

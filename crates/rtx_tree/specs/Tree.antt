@@ -1,10 +1,11 @@
 -- Expressions of RTL as trees: GCC Internals, "RTL Objects" and "RTL Expressions".
-use Rattle.std.specs.Prelude.{ℕ, suc, ℤ, pos, Bool, false, ◌||◌, List, [], ◌∷◌, length, sum, Option, Some, None, IfSome, option_map, option_and_then, slice_get, slice_set}
+use Rattle.std.specs.Prelude.{ℕ, suc, ℤ, pos, Bool, true, false, ◌||◌, List, [], ◌∷◌, length, sum, Option, Some, None, IfSome, option_map, option_and_then, slice_get, slice_set}
 use Rattle.std.specs.Ordering.{int_eq}
 use Rattle.std.specs.List.{list_any}
 use Rattle.rtx_tree.specs.Code.{class_of_code, parts_of, HasKids}
+use Rattle.rtx_tree.specs.Registers.{virtual_stack_vars}
 use Rattle.rtx_tree.specs.declared.code.Code.{Code}
-use Rattle.rtx_tree.specs.declared.code.Code.TheVariants.{Reg, ConstInt}
+use Rattle.rtx_tree.specs.declared.code.Code.TheVariants.{Reg, ConstInt, Mem}
 use Rattle.rtx_tree.specs.declared.code.Mode.{Mode}
 use Rattle.rtx_tree.specs.declared.code.Mode.TheVariants.{Void}
 use Rattle.rtx_tree.specs.declared.tree.Rtx.{Rtx, out-Rtx, roll-Rtx}
@@ -56,6 +57,31 @@ reg_of mode reg = leaf_of Reg mode (pos reg)
 abbrev pub const_of : ℤ → Rtx
 const_of value = leaf_of ConstInt Void value
 
+-- ---- what a tree is, by its code
+
+abbrev pub is_constant_code : Code → Bool
+is_constant_code ConstInt = true
+is_constant_code _ = false
+
+-- a constant
+abbrev pub is_constant : Rtx → Bool
+is_constant x = is_constant_code (out-Rtx x).code
+
+abbrev pub is_memory_code : Code → Bool
+is_memory_code Mem = true
+is_memory_code _ = false
+
+-- a register of this number
+abbrev pub is_reg_numbered : Code → ℤ → ℕ → Bool
+is_reg_numbered Reg number reg = int_eq number (pos reg)
+is_reg_numbered _ number reg = false
+
+-- the register virtual-stack-vars
+abbrev pub is_stack_vars : Rtx → Bool
+is_stack_vars x = is_reg_numbered (out-Rtx x).code (out-Rtx x).number virtual_stack_vars
+
+-- ---- sizes and parts
+
 -- one, and the sizes of the kids
 abbrev pub size_step : Rtx-F ℕ → ℕ
 size_step x = suc (sum x.kids)
@@ -83,11 +109,6 @@ abbrev pub replaced_at : List ℕ → Rtx → Rtx → Rtx
 replaced_at [] new x = new
 replaced_at (k ∷ path) new x =
     tree_of (head_of x) (changed_at (kids_of x) k (option_map (replaced_at path new) (slice_get (kids_of x) k)))
-
--- a register of this number
-abbrev pub is_reg_numbered : Code → ℤ → ℕ → Bool
-is_reg_numbered Reg number reg = int_eq number (pos reg)
-is_reg_numbered _ number reg = false
 
 abbrev pub mentions_step : ℕ → Rtx-F Bool → Bool
 mentions_step reg x = is_reg_numbered x.code x.number reg || list_any (λ here. here) x.kids

@@ -1,11 +1,12 @@
 //! Expressions of RTL.
 ghost use Rattle.std.specs.Prelude.{◌≡◌, ◌-◌, ◌^◌, ◌↔◌, [], ◌∷◌, min, slice_get, Some, IfOk, IsSome, IsTrue};
 ghost use Rattle.rtx_tree.specs.Patterns.{is_pc, label_of};
-ghost use Rattle.rtx_tree.specs.Tree.{head_of, kids_of, size_of, leaf_of, named_of, node_of, reg_of, const_of, is_reg_numbered, part_at, replaced_at, mentions_reg};
+ghost use Rattle.rtx_tree.specs.Tree.{is_constant, is_stack_vars, head_of, kids_of, size_of, leaf_of, named_of, node_of, reg_of, const_of, is_reg_numbered, part_at, replaced_at, mentions_reg};
 ghost use Rattle.std.specs.Option.{option_copied};
 
 use crate::code::{Code, Mode};
 use crate::name::Name;
+use crate::registers::VIRTUAL_STACK_VARS;
 use plain_data::{Items, Memory};
 use std::alloc::Global;
 use std::{fmt, mem};
@@ -160,6 +161,20 @@ impl Rtx {
         ensures { result ≡ const_of value }
     {
         Rtx::leaf(alloc, Code::ConstInt, Mode::Void, value)
+    }
+
+    /// Whether the tree is a constant.
+    pub fn is_constant(&self) -> bool
+        ensures { result ≡ is_constant self.now }
+    {
+        matches!(self.code, Code::ConstInt)
+    }
+
+    /// Whether the tree is `virtual-stack-vars`.
+    pub fn is_stack_vars(&self) -> bool
+        ensures { result ≡ is_stack_vars self.now }
+    {
+        self.is_register(VIRTUAL_STACK_VARS)
     }
 
     /// Whether the tree is `(pc)`.

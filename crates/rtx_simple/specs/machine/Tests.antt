@@ -3,8 +3,8 @@ use Rattle.std.specs.Prelude.{ℤ, List, [], ◌∷◌, Option, Some, None, opti
 use Rattle.rtx_tree.specs.declared.code.Code.{Code}
 use Rattle.rtx_tree.specs.declared.code.Code.TheVariants.{Plus}
 use Rattle.rtx_tree.specs.declared.tree.Rtx.{Rtx}
-use Rattle.rtx_tree.specs.Tree.{head_of, kids_of}
-use Rattle.rtx_simple.specs.Simple.{is_constant, is_zero, wrapping_sum, added, tested}
+use Rattle.rtx_tree.specs.Tree.{head_of, kids_of, is_constant}
+use Rattle.rtx_simple.specs.Simple.{is_zero, wrapping_sum, added, tested}
 
 -- the number of a constant
 abbrev pub constant_of : Rtx → Option ℤ

@@ -1,5 +1,4 @@
-use Rattle.md_constr.specs.Inputs.{effects_of}
-use Rattle.reload_operands.specs.Directions.{clobbered_by}
+use Rattle.md_constr.specs.Inputs.{effects_of, clobbered_by}
 use Rattle.reload_operands.proofs.NumberLaws.{has_in_all}
 use Rattle.reload_operands.proofs.directions.is_clobbered.Goals as goal
 

@@ -3,7 +3,7 @@ use Rattle.std.proofs.Common.{◌≡◌, ℕ, ◌+◌, ◌<◌, ◌≤◌, List,
 use Rattle.std.specs.List.{AllZip}
 use Rattle.std.proofs.lemmas.List.{take_more, take_all}
 use Rattle.rv_text.specs.declared.line.Line.{Line}
-use Rattle.lint_judge.specs.Lines.{IsReadAs}
+use Rattle.md_output.specs.Read.{IsReadAs}
 
 read_push : (texts : List (List ℕ)) (ls : List Line) (t : List ℕ) (line : Line) → AllZip IsReadAs texts ls → IsReadAs t line → AllZip IsReadAs (texts ++ t ∷ []) (ls ++ line ∷ [])
 read_push [] [] t line zipped is = (is, tt)

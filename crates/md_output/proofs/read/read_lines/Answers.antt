@@ -1,7 +1,7 @@
 use Rattle.std.proofs.Common.{ℕ, List, subst, arith}
-use Rattle.lint_judge.specs.Lines.{IsReadAs}
-use Rattle.lint_judge.proofs.ReadLaws.{read_on}
-use Rattle.lint_judge.proofs.lines.read_lines.Goals as goal
+use Rattle.md_output.specs.Read.{IsReadAs}
+use Rattle.md_output.proofs.ReadLaws.{read_on}
+use Rattle.md_output.proofs.read.read_lines.Goals as goal
 
 pub loop-text-preserved : goal.loop-text-preserved
 loop-text-preserved c =

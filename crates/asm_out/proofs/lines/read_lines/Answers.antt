@@ -1,9 +1,0 @@
-use Rattle.std.proofs.Common.{ℕ, List, subst, arith}
-use Rattle.asm_out.specs.Filled.{IsReadAs}
-use Rattle.asm_out.proofs.ReadLaws.{read_on}
-use Rattle.asm_out.proofs.lines.read_lines.Goals as goal
-
-pub loop-text-preserved : goal.loop-text-preserved
-loop-text-preserved c =
-    read_on c.as_slice-text-items.result.now c.loop-text.text-index c.text-item.result c.loop-text.lines c.push.new.self c.in_ok-read_line.field-0 (omega arith) c.text-item.is c.in_ok-push.ensures.ok
-    c.loop-text.invariant (subst (λ (t : List ℕ). IsReadAs t c.in_ok-read_line.field-0) c.bytes.ensures c.in_ok-read_line.ensures)

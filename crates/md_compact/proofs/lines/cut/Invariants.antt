@@ -1,7 +1,0 @@
--- None of the bytes that were passed is the one that is sought.
-use Rattle.std.proofs.Common.{◌≡◌, ◌++◌, drop, take, option_map}
-use Rattle.md_compact.specs.Lines as spec
-use Rattle.md_compact.proofs.lines.cut.Given as goal
-
-abbrev pub invariant-loop-at : goal.invariant-loop-at
-invariant-loop-at l = option_map (λ parts. (take l.at l.text ++ parts.0, parts.1)) (spec.cut l.byte (drop l.at l.text)) ≡ spec.cut l.byte l.text

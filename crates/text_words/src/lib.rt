@@ -12,13 +12,13 @@
 #![tactic(auto)]
 
 mod blanks;
-mod cut;
+mod cutting;
 mod number;
 mod print;
 mod words;
 
 pub use blanks::{all_blank, behind_blanks, behind_spaces, is_blank, is_space};
-pub use cut::cut;
+pub use cutting::cut;
 pub use number::c_number_in;
 pub use print::{print_count, print_number, print_text};
 pub use words::{is_symbol, is_symbol_byte, number_in, same};

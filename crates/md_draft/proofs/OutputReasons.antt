@@ -1,5 +1,5 @@
 -- An output sets its form aside with the smallest of the reasons that it has.
-use Rattle.std.proofs.Common.{◌≡◌, ◌≤◌, ◌⊎◌, ℕ, ◌==◌, ◌&&◌, ◌||◌, Bool, true, false, true≢false, List, [], ◌∷◌, Option, Some, None, Result, Ok, Err, if◌then◌else◌, refl, sym, ap, subst, ◌∙◌, inl, inr, arith}
+use Rattle.std.proofs.Common.{◌≡◌, ◌≤◌, ℕ, ◌==◌, ◌&&◌, ◌||◌, Bool, true, false, true≢false, List, [], ◌∷◌, Option, Some, None, Result, Ok, Err, if◌then◌else◌, refl, sym, ap, subst, ◌∙◌, arith}
 use Rattle.std.proofs.lemmas.Bool.{eqb-true}
 use Rattle.std.specs.List.{list_any}
 use Rattle.lisp_read.specs.declared.tree.Tree.{Tree, out-Tree}
@@ -67,12 +67,12 @@ module _ (text : List ℕ) where
   no_line plain not = ap (λ c. c || (is_several text && a_line)) plain ∙ ap (λ s. s && a_line) not
 
   of_one : (o : Option (List Piece)) → is_code_text text ≡ false → Smallest (output_by (one o))
-  of_one None is = is_none _ is
-  of_one (Some line) is = is_none _ is
+  of_one None is = is_none output.Outside is
+  of_one (Some line) is = is_none (output.Template (template.One line)) is
 
   of_several : (o : Option (List (List Piece))) → is_code_text text ≡ false → Smallest (output_by (several o))
-  of_several None is = is_none _ is
-  of_several (Some all) is = is_none _ is
+  of_several None is = is_none output.Outside is
+  of_several (Some all) is = is_none (output.Template (template.Each all)) is
 
   by_lines : (b : Bool) → a_line ≡ b → is_code text ≡ false → is_several text ≡ true →
       Smallest (output_by (if b then reading.Code else several (each spaced_line_of (lines (behind_first text)))))
@@ -86,7 +86,7 @@ module _ (text : List ℕ) where
 
   by_split : (b : Bool) → is_split text ≡ b → is_code text ≡ false →
       Smallest (output_by (if b then reading.Template template.Split else (if is_several text then each_line (lines (behind_first text)) else one (line_of text))))
-  by_split true split plain = is_none _ (no_line plain (split_not_several text split))
+  by_split true split plain = is_none (output.Template template.Split) (no_line plain (split_not_several text split))
   by_split false other plain = by_several (is_several text) refl plain
 
   by_code : (b : Bool) → is_code text ≡ b →

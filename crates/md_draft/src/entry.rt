@@ -394,8 +394,9 @@ fn headed(
 
 /// What a tree says as a form, by itself: its head, its name, and its parts or the smallest reason
 /// that its own text gives. A tree that is no list with an atom at its head has the head `-` and no
-/// parts. Of a form that describes a pipeline it has a copy. `values` are the conditions that hold besides the form's own. The names in conditions and
-/// statements that are constants are read with `constants`.
+/// parts. Of a form that describes a pipeline it has a copy. `values` are the conditions that hold
+/// besides the form's own. The names in conditions and statements that are constants are read with
+/// `constants`.
 #[tactic(auto, using(crate::proofs::Reasons::of_entry))]
 pub fn entry_of(
     alloc: Global,

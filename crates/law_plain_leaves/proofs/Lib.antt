@@ -1,3 +1,4 @@
 pub mod Shaped
 pub mod Leaves
 pub mod Addresses
+pub mod Apart

@@ -1,0 +1,12 @@
+pub mod Steps
+pub mod Named
+pub mod Registers
+pub mod Fitted
+pub mod Standard
+pub mod Emitted
+pub mod Operations
+pub mod Computed
+pub mod Forced
+pub mod Stores
+pub mod Branches
+pub mod Planned

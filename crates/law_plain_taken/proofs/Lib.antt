@@ -1,0 +1,6 @@
+pub mod Nodes
+pub mod Conditions
+pub mod Operands
+pub mod Sets
+pub mod Leads
+pub mod Takes

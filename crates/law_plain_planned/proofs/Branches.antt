@@ -12,13 +12,13 @@ use Rattle.rtx_tree.specs.declared.code.Code.TheVariants as code
 use Rattle.rtx_tree.specs.declared.code.Mode.{Mode}
 use Rattle.rtx_tree.specs.declared.code.Mode.TheVariants.{Void, DI}
 use Rattle.rtx_tree.specs.declared.tree.Rtx.{Rtx, out-Rtx, out-roll-Rtx}
-use Rattle.rtx_tree.specs.Code.{class_of_code}
+use Rattle.rtx_tree.specs.Code.{class_of_code, is_comparison_class}
 use Rattle.rtx_tree.specs.Patterns.{set_rtx, is_pc_code}
 use Rattle.rtx_tree.specs.Tree.{RtxHead, head_of, kids_of, tree_of, leaf_of, node_of, const_of}
 use Rattle.rtx_tree.proofs.Trees.{head_of-tree, kids_of-tree}
 use Rattle.rtl_func.specs.Shapes.{is_constant_class, mode_at}
 use Rattle.rtl_func.specs.Shapes as shapes
-use Rattle.md_operand.specs.Operand.{is_constant, is_constant_code, is_comparison, is_comparison_code, is_comparison_class, is_register, is_register_by, register_operand, accepts_mode}
+use Rattle.md_operand.specs.Operand.{is_constant, is_constant_code, is_comparison, is_comparison_code, is_register, is_register_by, register_operand, accepts_mode}
 use Rattle.md_operand.specs.Operand as operands
 use Rattle.md_match.specs.Pattern.{Ops, gives, gives_number, placeholders}
 use Rattle.md_recog.specs.Match.{Accepts, names_predicate}

@@ -90,7 +90,7 @@ insn_leaves symbols regs m x a es natural does hard none q has = elim (is_parall
 
 -- ---- effects among others
 
-one_of : (q : ℕ) (e : Effect) (es : List Effect) → Among e es → AllLeave q es → Leaves q e
+pub one_of : (q : ℕ) (e : Effect) (es : List Effect) → Among e es → AllLeave q es → Leaves q e
 one_of q e [] among leave = absurd among
 one_of q e (o ∷ es) (inl same) leave = subst (Leaves q) (sym same) leave.0
 one_of q e (o ∷ es) (inr more) leave = one_of q e es more leave.1
@@ -104,10 +104,10 @@ some_leave q (d ∷ ds) es among leave = (one_of q d es among.0 leave, some_leav
 pub leaf_free : (x : Rtx) → is_no_memory x ≡ true → kids_of x ≡ [] → all_pass is_no_memory x ≡ true
 leaf_free x here none = pass_out is_no_memory x ∙ ap (λ b. b && list_all (all_pass is_no_memory) (kids_of x)) here ∙ ap (list_all (all_pass is_no_memory)) none
 
-reg_free : (r : ℕ) → all_pass is_no_memory (reg_of DI r) ≡ true
+pub reg_free : (r : ℕ) → all_pass is_no_memory (reg_of DI r) ≡ true
 reg_free r = leaf_free (reg_of DI r) (ap (λ (o : Rtx-F Rtx). no_memory_class (class_of_code o.code)) (out-roll-Rtx _)) (ap (λ (o : Rtx-F Rtx). o.kids) (out-roll-Rtx _))
 
-const_free : (n : ℤ) → all_pass is_no_memory (const_of n) ≡ true
+pub const_free : (n : ℤ) → all_pass is_no_memory (const_of n) ≡ true
 const_free n = leaf_free (const_of n) (ap (λ (o : Rtx-F Rtx). no_memory_class (class_of_code o.code)) (out-roll-Rtx _)) (ap (λ (o : Rtx-F Rtx). o.kids) (out-roll-Rtx _))
 
 sp_free : (none : Bool) (n : ℤ) → all_pass is_no_memory (if none then reg_of DI 2 else node_of code.Plus DI (reg_of DI 2 ∷ const_of n ∷ [])) ≡ true

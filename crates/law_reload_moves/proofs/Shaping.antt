@@ -10,7 +10,6 @@ use Rattle.law_operands_fetched.specs.rtx_tree.declared.code.Mode.TheVariants.{D
 use Rattle.law_operands_fetched.specs.rtx_tree.declared.tree.Rtx.{Rtx}
 use Rattle.law_operands_fetched.specs.rtx_tree.Code.{is_effect_class, mode_bits}
 use Rattle.law_operands_fetched.specs.rtl_func.Shapes.{class_at, mode_at, has_mode, same_mode, is_narrower, is_constant, is_place, is_value, is_effect, is_operand, is_some_operand, is_moded, are_compared, is_jump_source_class, is_counter_class, is_comparison_class, is_label_class, is_call_class, is_memory_class, is_scratch_class, is_set_to, fits_one, fits_two, fits_three, fits_parts, fits_row, is_called, is_choice}
-use Rattle.law_reload_moves.proofs.HomedShapes.{effects_fit}
 
 -- a test that neither a register passes, nor its low part, nor a sum
 abbrev pub IsOfOthers : (Class → Bool) → Type 0
@@ -140,9 +139,16 @@ three_too class.Branch mode a b c a' b' c' first second third fits =
     (other is_counter_class c c' third (refl, (refl, refl))))) fits
 three_too _ mode a b c a' b' c' first second third fits = absurd (let no : ⊥ = cc in no)
 
+effects_too : (xs ys : List Rtx) → AllAlike xs ys → list_all is_effect xs ≡ true → list_all is_effect ys ≡ true
+effects_too [] [] like all = refl
+effects_too [] (b ∷ ys) like all = absurd like
+effects_too (a ∷ xs) [] like all = absurd like
+effects_too (a ∷ xs) (b ∷ ys) like all =
+    and_by (is_effect a) (list_all is_effect xs) _ _ (other is_effect_class a b like.0 (refl, (refl, refl))) (effects_too xs ys like.1) all
+
 parallel_by : (mode : Mode) (number : ℕ) (xs ys : List Rtx) → AllAlike xs ys →
     fits_row class.Parallel mode number xs ≡ true → fits_row class.Parallel mode number ys ≡ true
-parallel_by mode number xs ys like fits = and_by (not (has_mode mode)) (list_all is_effect xs) _ _ (λ e. e) (effects_fit xs ys like) fits
+parallel_by mode number xs ys like fits = and_by (not (has_mode mode)) (list_all is_effect xs) _ _ (λ e. e) (effects_too xs ys like) fits
 
 rest_by : (k : Class) (mode : Mode) (number : ℕ) (xs ys : List Rtx) → AllAlike xs ys →
     (is_changing k ≡ true → FirstPlace xs ys) → is_low k ≡ false →

@@ -90,7 +90,7 @@ insn_leaves symbols regs m x a es natural does hard none q has = elim (is_parall
 
 -- ---- effects among others
 
-pub one_of : (q : ℕ) (e : Effect) (es : List Effect) → Among e es → AllLeave q es → Leaves q e
+one_of : (q : ℕ) (e : Effect) (es : List Effect) → Among e es → AllLeave q es → Leaves q e
 one_of q e [] among leave = absurd among
 one_of q e (o ∷ es) (inl same) leave = subst (Leaves q) (sym same) leave.0
 one_of q e (o ∷ es) (inr more) leave = one_of q e es more leave.1

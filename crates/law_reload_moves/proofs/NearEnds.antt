@@ -30,7 +30,7 @@ use Rattle.law_operands_fetched.proofs.law_operands_replaced.Keyed.{Keyed}
 use Rattle.law_reload_moves.proofs.OutEffects.{IsPlaceSet, in_register, in_memory, IsOut, StandsOut, set_again, own_value, set_effects, there_after, among_there, all_there, ends_near}
 use Rattle.law_reload_moves.proofs.SteadyAddress.{Leaves, AllLeave, all_leave, AreLeft}
 use Rattle.law_reload_moves.proofs.ResultsEnd.{Among, AllAmong, Reached, ReachedBy, EndsNear}
-use Rattle.law_reload_moves.proofs.GivenSteady.{one_of, some_leave}
+use Rattle.law_reload_moves.proofs.GivenSteady.{some_leave}
 
 -- ---- registers that effects leave
 

@@ -1,7 +1,7 @@
 -- What the passes make of a function, one behind the other: GCC Internals, "Passes and Files of the
 -- Compiler" ("RTL passes"). A pass goes on with what the one before it leaves, and what one refuses
 -- is told by the function's name and the pass; a function that one makes too long is refused too.
-use Rattle.std.specs.Prelude.{◌≡◌, ℕ, ◌≤◌, ◌<◌, Bool, if◌then◌else◌, List, [], ◌∷◌, ◌++◌, Result, Ok, Err}
+use Rattle.std.specs.Prelude.{◌≡◌, ℕ, ◌≤◌, ◌<◌, Bool, if◌then◌else◌, List, [], ◌∷◌, Result, Ok, Err}
 use Rattle.std.specs.Str.{bytes_eq}
 use Rattle.rtx_tree.specs.declared.function.Insn.{Insn}
 use Rattle.rtx_tree.specs.declared.function.Function.{Function}

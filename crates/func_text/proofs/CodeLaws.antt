@@ -16,7 +16,7 @@ use Rattle.func_text.specs.Assembly.{Outcome, AssemblyComes}
 use Rattle.func_text.specs.Compile.{FunctionsCome, InputComes}
 use Rattle.func_text.specs.Code.{Answer, Gives, place_named, has_named, IsCodedAt, NameComes, CodeComes, IsCoded}
 use Rattle.func_text.proofs.OneAssembly.{one_assembly, one_coming, one_coming_of}
-use Rattle.func_text.proofs.Laws.{is_assembly, are_parts, parts_count}
+use Rattle.func_text.proofs.Laws.{is_assembly, are_parts, parts_count, same_assembly}
 
 -- ---- one answer
 
@@ -28,9 +28,6 @@ err_apart e a is = let none : ⊥ = cc in none
 
 same_err : (e d : Refusal) → ◌≡◌ {A = Outcome} (Err e) (Err d) → ◌≡◌ {A = Answer} (Err e) (Err d)
 same_err e d is = ap (λ (x : Refusal). Err x) (let same : e ≡ d = cc in same)
-
-same_ok : (a b : Assembly) → ◌≡◌ {A = Outcome} (Ok a) (Ok b) → a ≡ b
-same_ok a b is = cc
 
 same_coded : (functions : List Function) (a : Assembly) (place : ℕ) (c d : Coded) → IsCodedAt functions a place c → IsCodedAt functions a place d → c ≡ d
 same_coded functions a place c d p q =
@@ -49,7 +46,7 @@ module _ (forms : List Entry) where
   one_name functions name _ _ (NameComes.coded place x c held comes at) (NameComes.unnamed missing) = absurd (no_place (place_named functions name) place held missing)
   one_name functions name _ _ (NameComes.coded place x c held comes at) (NameComes.refused place' e held' comes') = absurd (err_apart e x (one_coming forms Usual functions (Err e) (Ok x) comes' comes))
   one_name functions name _ _ (NameComes.coded place x c held comes at) (NameComes.coded place' y d held' comes' at') =
-      let whole : x ≡ y = same_ok x y (one_coming forms Usual functions (Ok x) (Ok y) comes comes') in
+      let whole : x ≡ y = same_assembly x y (one_coming forms Usual functions (Ok x) (Ok y) comes comes') in
       let here : place ≡ place' = (let e : Some place ≡ Some place' = sym held ∙ held' in cc) in
       ap (λ (k : Coded). Ok k) (same_coded functions y place' c d (subst (λ (p : ℕ). IsCodedAt functions y p c) here (subst (λ (z : Assembly). IsCodedAt functions z place c) whole at)) at')
 

@@ -3,10 +3,7 @@ use Rattle.std.proofs.Common.{◌≡◌, ℕ, List, [], ◌∷◌, ◌++◌, ap,
 use Rattle.std.specs.Fmt.{decimal}
 use Rattle.schedule.specs.declared.plan.CycleOf.{CycleOf}
 use Rattle.func_text.specs.Cycles.{line_of}
-
--- what stands behind a part and its blank
-behind : (front part rest : List ℕ) → (front ++ (part ++ 32 ∷ [])) ++ rest ≡ front ++ (part ++ (32 ∷ rest))
-behind front part rest = append_assoc front (part ++ 32 ∷ []) rest ∙ ap (λ (t : List ℕ). front ++ t) (append_assoc part (32 ∷ []) rest)
+use Rattle.func_text.proofs.Line.{behind}
 
 parts_made : (old a b c f n x : List ℕ) → a ≡ old ++ (f ++ 32 ∷ []) → b ≡ a ++ (n ++ 32 ∷ []) → c ≡ b ++ (x ++ 10 ∷ []) → c ≡ old ++ (f ++ (32 ∷ (n ++ (32 ∷ (x ++ 10 ∷ [])))))
 parts_made old a b c f n x p q r =

@@ -29,7 +29,7 @@ record HasAlone (forms : List Entry) (road : Road) (number size : ℕ) (f : Func
   pub comes : out.FunctionComes forms number made.function size (Ok piece)
   pub is : alone f made piece ≡ a
 
-same_assembly : (a b : Assembly) → ◌≡◌ {A = Outcome} (Ok a) (Ok b) → a ≡ b
+pub same_assembly : (a b : Assembly) → ◌≡◌ {A = Outcome} (Ok a) (Ok b) → a ≡ b
 same_assembly a b is = cc
 
 told_alone : (forms : List Entry) (road : Road) (number size : ℕ) (f : Function) (m : Made) (o : out_of.Outcome) (a : Assembly) →

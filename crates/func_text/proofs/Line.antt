@@ -5,7 +5,7 @@ use Rattle.form_needs.specs.Needs.{name_at}
 use Rattle.func_text.specs.Recog.{line_of}
 
 -- what stands behind a part and its blank
-behind : (front part rest : List ℕ) → (front ++ (part ++ 32 ∷ [])) ++ rest ≡ front ++ (part ++ (32 ∷ rest))
+pub behind : (front part rest : List ℕ) → (front ++ (part ++ 32 ∷ [])) ++ rest ≡ front ++ (part ++ (32 ∷ rest))
 behind front part rest = append_assoc front (part ++ 32 ∷ []) rest ∙ ap (λ (t : List ℕ). front ++ t) (append_assoc part (32 ∷ []) rest)
 
 parts_made : (old a b c d f n x y : List ℕ) → a ≡ old ++ (f ++ 32 ∷ []) → b ≡ a ++ (n ++ 32 ∷ []) → c ≡ b ++ (x ++ 32 ∷ []) → d ≡ c ++ (y ++ 10 ∷ []) → d ≡ old ++ (f ++ (32 ∷ (n ++ (32 ∷ (x ++ (32 ∷ (y ++ 10 ∷ [])))))))

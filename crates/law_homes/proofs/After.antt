@@ -46,6 +46,7 @@ use Rattle.law_homes.proofs.HomesApart.{home_is, hard_home, homes_apart, same_ha
 use Rattle.law_homes.proofs.Registers.{with_here, with_other, without_here, without_other}
 use Rattle.law_homes.proofs.Setting.{Setting, IsNamed, base, home_least, slot_below, slot_no_local, slot_even}
 use Rattle.law_homes.proofs.Stores.{IsWithin, load_each, slot_there, narrower_stored, store_hidden, store_seen, store_within}
+pub use Rattle.law_homes.proofs.Stores.{eight_bytes}
 
 -- ---- which effects change a register
 
@@ -121,12 +122,6 @@ some_bytes W8 = omega arith
 some_bytes W16 = omega arith
 some_bytes W32 = omega arith
 some_bytes W64 = omega arith
-
-pub eight_bytes : (w : Width) → bytes_of w ≤ 8
-eight_bytes W8 = omega arith
-eight_bytes W16 = omega arith
-eight_bytes W32 = omega arith
-eight_bytes W64 = omega arith
 
 fewer_bytes : (w v : Width) → nat_le (bits_of w) (bits_of v) ≡ true → IsWithin w v
 fewer_bytes W8 v is = some_bytes v

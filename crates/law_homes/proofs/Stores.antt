@@ -144,17 +144,17 @@ load_each w memory address there =
 eight_aligned : (address : ℕ) → address % 8 ≡ 0 → is_aligned W64 address ≡ true
 eight_aligned address even = grind (arith, nat_tests, even)
 
-each_within : (w : Width) → bytes_of w ≤ 8
-each_within W8 = omega arith
-each_within W16 = omega arith
-each_within W32 = omega arith
-each_within W64 = omega arith
+pub eight_bytes : (w : Width) → bytes_of w ≤ 8
+eight_bytes W8 = omega arith
+eight_bytes W16 = omega arith
+eight_bytes W32 = omega arith
+eight_bytes W64 = omega arith
 
 pub slot_there : (memory : List MemByte) (address : ℕ) → address % 8 ≡ 0 →
     ((place : ℕ) → address ≤ place → place < address + 8 → is_some (byte_at memory place) ≡ true) → (w : Width) →
     is_some (load w memory address) ≡ true
 slot_there memory address even each w =
-    narrower_there w W64 memory address (each_within w)
+    narrower_there w W64 memory address (eight_bytes w)
     (ap (λ b. is_some (if b then number_at memory address 8 else None)) (eight_aligned address even) ∙ all_there memory address 8 each)
 
 -- and behind a store it has the low bits of what was stored

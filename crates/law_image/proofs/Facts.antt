@@ -50,7 +50,7 @@ Facts m Leap line = (row_of m).action ≡ Jump
 Facts m Long line = m ≡ mnemonic.Li
 Facts m (Far op through) line = (m ≡ mnemonic.La) ⊎ (m ≡ mnemonic.Call)
 
-zero_low : 0 < 32
+pub zero_low : 0 < 32
 zero_low = omega arith
 
 one_low : 1 < 32

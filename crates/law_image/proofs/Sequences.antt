@@ -16,6 +16,7 @@ use Rattle.rv_word.specs.declared.base.BaseOp.{BaseOp}
 use Rattle.rv_word.specs.declared.base.BaseOp.TheVariants as base
 use Rattle.words_run.specs.Run.{Fetching, Goes}
 use Rattle.law_image.proofs.Steps.{AllFit, Does, at_pc, straight_does}
+use Rattle.law_image.proofs.Facts.{zero_low}
 
 fit_append : (xs ys : List Base) → AllFit xs → AllFit ys → AllFit (xs ++ ys)
 fit_append [] ys first second = second
@@ -34,9 +35,6 @@ within12 (negsuc n) is = let less : n < 2048 = grind (arith, nat_tests) in (omeg
 
 upper_within : (n : ℕ) → IsWithin (pos 0) (pos 1048575) (pos (n % 2 ^ 20))
 upper_within n = (omega (arith, ints), omega (arith, ints))
-
-zero_low : 0 < 32
-zero_low = omega arith
 
 -- an instruction that adds a number
 abbrev Adds : BaseOp → Type 0

@@ -24,7 +24,7 @@ use Rattle.reload_choice.specs.reload_fit.Addressed.{address_on}
 use Rattle.law_operands_fetched.proofs.Based.{slot_of, OnSlot, added, IsBased, place}
 use Rattle.law_operands_fetched.proofs.Based as based
 
-numbered_is : (c : Code) (n : ℤ) (reg : ℕ) → register_numbered c n ≡ Some reg → (c ≡ code.Reg) × (n ≡ pos reg)
+pub numbered_is : (c : Code) (n : ℤ) (reg : ℕ) → register_numbered c n ≡ Some reg → (c ≡ code.Reg) × (n ≡ pos reg)
 numbered_is code.Reg (pos n) reg is = (refl, (let e : n ≡ reg = cc in ap pos e))
 numbered_is code.Reg (negsuc n) reg is = absurd (let no : ⊥ = cc in no)
 numbered_is _ n reg is = absurd (let no : ⊥ = cc in no)

@@ -20,6 +20,7 @@ use Rattle.reload_homes.specs.Homes.{home_of, slot_offset, slot_address, place_b
 use Rattle.reload_homes.proofs.Rewrites.{homed_register, homed_over}
 use Rattle.law_operands_replaced.specs.Spare.{is_spare, NamesNoSpare}
 use Rattle.law_operands_fetched.proofs.SmallTrees.{tree_induction, one_or_other, or_second, no_number, stands_there, stands_part, in_register, in_sp}
+use Rattle.law_operands_fetched.proofs.GivenBases.{numbered_is}
 
 -- ---- the register that a tree is, or of which it is the low part
 
@@ -29,18 +30,13 @@ pub data RegisterCase (x : Rtx) (reg : ℕ) : Type 0 where
       (head_of inner).number ≡ pos reg →
       RegisterCase x reg
 
-numbered_case : (c : Code) (n : ℤ) (reg : ℕ) → register_numbered c n ≡ Some reg → (c ≡ code.Reg) × (n ≡ pos reg)
-numbered_case code.Reg (pos n) reg is = (refl, (let e : n ≡ reg = cc in ap pos e))
-numbered_case code.Reg (negsuc n) reg is = absurd (let no : ⊥ = cc in no)
-numbered_case _ n reg is = absurd (let no : ⊥ = cc in no)
-
 register_case : (x : Rtx) (reg : ℕ) (c : Code) (kids : List Rtx) → (head_of x).code ≡ c → kids_of x ≡ kids →
     register_by c x kids ≡ Some reg → RegisterCase x reg
-register_case x reg code.Subreg [] is are at = let r = numbered_case (head_of x).code (head_of x).number reg at in whole r.0 r.1
+register_case x reg code.Subreg [] is are at = let r = numbered_is (head_of x).code (head_of x).number reg at in whole r.0 r.1
 register_case x reg code.Subreg (inner ∷ []) is are at =
-    let r = numbered_case (head_of inner).code (head_of inner).number reg at in low inner is are r.0 r.1
-register_case x reg code.Subreg (a ∷ b ∷ kids) is are at = let r = numbered_case (head_of x).code (head_of x).number reg at in whole r.0 r.1
-register_case x reg c kids is are at = let r = numbered_case (head_of x).code (head_of x).number reg at in whole r.0 r.1
+    let r = numbered_is (head_of inner).code (head_of inner).number reg at in low inner is are r.0 r.1
+register_case x reg code.Subreg (a ∷ b ∷ kids) is are at = let r = numbered_is (head_of x).code (head_of x).number reg at in whole r.0 r.1
+register_case x reg c kids is are at = let r = numbered_is (head_of x).code (head_of x).number reg at in whole r.0 r.1
 
 pub case_of : (x : Rtx) (reg : ℕ) → register_at x ≡ Some reg → RegisterCase x reg
 case_of x reg at = register_case x reg (head_of x).code (kids_of x) refl refl at

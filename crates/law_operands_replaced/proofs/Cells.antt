@@ -45,7 +45,7 @@ known_made q (Sets r k) old = set_made q r k old
 known_made q (Unsets r) old = if eqb q r then None else old
 known_made q _ old = old
 
-eqb_cmp : (q k : ℕ) → eq_by_cmp nat_cmp q k ≡ eqb q k
+pub eqb_cmp : (q k : ℕ) → eq_by_cmp nat_cmp q k ≡ eqb q k
 eqb_cmp q k = grind (arith, nat_tests)
 
 one_known : (e : Effect) (regs : Regs) (q : ℕ) → get (reg_after e regs) q ≡ known_made q e (get regs q)

@@ -130,11 +130,11 @@ pub pc_class : (c : Code) → is_pc_code c ≡ true → class_of_code c ≡ clas
 pc_class code.Pc is = refl
 pc_class _ is = absurd (let no : ⊥ = cc in no)
 
-set_row : (c : Code) (mode : Mode) (number : ℕ) (a b : Rtx) → c ≡ code.Set → fits_row (class_of_code c) mode number (a ∷ b ∷ []) ≡ true → is_set_to a b ≡ true
+pub set_row : (c : Code) (mode : Mode) (number : ℕ) (a b : Rtx) → c ≡ code.Set → fits_row (class_of_code c) mode number (a ∷ b ∷ []) ≡ true → is_set_to a b ≡ true
 set_row code.Set mode number a b is fits = (and_parts (not (has_mode mode)) (is_set_to a b) fits).1
 set_row _ mode number a b is fits = absurd (let no : ⊥ = cc in no)
 
-counter_source : (k : Class) (a b : Bool) → k ≡ class.Counter → (is_place_class k && a) || (is_counter_class k && b) ≡ true → b ≡ true
+pub counter_source : (k : Class) (a b : Bool) → k ≡ class.Counter → (is_place_class k && a) || (is_counter_class k && b) ≡ true → b ≡ true
 counter_source class.Counter a b is fits = fits
 counter_source _ a b is fits = absurd (let no : ⊥ = cc in no)
 
@@ -145,7 +145,7 @@ set_source x t s is are shaped pc =
     ap (fits_row (class_at x) (mode_at x) (number_at x)) (sym are) ∙ row_at x shaped in
     counter_source (class_at t) _ (is_jump_source_class (class_at s)) (pc_class (head_of t).code pc) (set_row code.Set (mode_at x) (number_at x) t s refl row)
 
-label_row : (c : Code) (mode : Mode) (number : ℕ) (uid : Rtx) → c ≡ code.LabelRef → fits_row (class_of_code c) mode number (uid ∷ []) ≡ true → is_constant uid ≡ true
+pub label_row : (c : Code) (mode : Mode) (number : ℕ) (uid : Rtx) → c ≡ code.LabelRef → fits_row (class_of_code c) mode number (uid ∷ []) ≡ true → is_constant uid ≡ true
 label_row code.LabelRef mode number uid is fits = (and_parts (not (has_mode mode)) (is_constant uid) fits).1
 label_row _ mode number uid is fits = absurd (let no : ⊥ = cc in no)
 

@@ -33,14 +33,7 @@ use Rattle.law_operands_replaced.proofs.NewTrees.{Becomes, AllBecome, none, next
 use Rattle.law_operands_replaced.proofs.ReadTrees.{read_in, NameNoSpare}
 use Rattle.law_operands_replaced.proofs.Valued.{by_row, some_width}
 use Rattle.law_operands_replaced.proofs.Addresses.{is_new_class, IsNewTree, IsOver, is_over, becomes_reads}
-
-pc_class : (c : Code) → is_pc_code c ≡ true → class_of_code c ≡ class.Counter
-pc_class code.Pc is = refl
-pc_class _ is = absurd (let no : ⊥ = cc in no)
-
-counter_source : (k : Class) (a b : Bool) → k ≡ class.Counter → (is_place_class k && a) || (is_counter_class k && b) ≡ true → b ≡ true
-counter_source class.Counter a b is fits = fits
-counter_source _ a b is fits = absurd (let no : ⊥ = cc in no)
+use Rattle.law_operands_replaced.proofs.JumpTrees.{pc_class, counter_source, label_row}
 
 source_class : (k : Class) → is_jump_source_class k ≡ true → is_new_class k ≡ false
 source_class class.Label is = refl
@@ -74,11 +67,6 @@ row_of x shaped = (and_parts (is_bare (class_at x) (number_at x) (head_of x).nam
 label_too : (c : Code) (uid uid' : Rtx) → head_of uid' ≡ head_of uid → Too (label_uid c (uid ∷ [])) (label_uid c (uid' ∷ []))
 label_too code.LabelRef uid uid' head = λ v is. ap (λ (h : RtxHead). Some (cast_unsigned w64 h.number)) head ∙ is
 label_too _ uid uid' head = λ v none. absurd (let no : ⊥ = cc in no)
-
-label_row : (c : Code) (mode : Mode) (number : ℕ) (uid : Rtx) → c ≡ code.LabelRef → fits_row (class_of_code c) mode number (uid ∷ []) ≡ true →
-    is_constant uid ≡ true
-label_row code.LabelRef mode number uid is fits = (and_parts (not (has_mode mode)) (is_constant uid) fits).1
-label_row _ mode number uid is fits = absurd (let no : ⊥ = cc in no)
 
 -- a comparison is read alike in each width
 pub comparison_any : (symbols : List SymbolAt) (regs : Regs) (memory : List MemByte) (x : Rtx) (kids : List Rtx) (w u : Width) →

@@ -10,9 +10,7 @@ use Rattle.bits64.specs.declared.Width.{Width}
 use Rattle.bits64.specs.declared.Width.TheVariants.{W8, W16, W32, W64}
 use Rattle.rtl_step.specs.Regs.{Regs, known_in, known_of, reg_value, with_reg, without_reg}
 use Rattle.rtl_step.specs.declared.regs.Known.{Known}
-
-eqb_cmp : (q k : ℕ) → eq_by_cmp nat_cmp q k ≡ eqb q k
-eqb_cmp q k = grind (arith, nat_tests)
+use Rattle.law_operands_replaced.proofs.Cells.{eqb_cmp}
 
 same_eqb : (r : ℕ) → eqb r r ≡ true
 same_eqb r = grind (arith, nat_tests)

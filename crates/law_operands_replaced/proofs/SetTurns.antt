@@ -31,11 +31,10 @@ use Rattle.law_operands_replaced.proofs.NewTrees.{Becomes, AllBecome, none, over
 use Rattle.law_operands_replaced.proofs.PutParts.{IsOver}
 use Rattle.law_operands_replaced.proofs.Readings.{IsOwn, operand_own, own_here}
 use Rattle.law_operands_replaced.proofs.Turning.{IsSetting, SourceToo, setting_opened}
+use Rattle.law_operands_replaced.proofs.JumpTrees.{set_row}
+use Rattle.law_operands_replaced.proofs.Jumping.{row_of}
 
 -- ---- trees
-
-row_of : (x : Rtx) → all_pass is_shaped x ≡ true → fits_row (class_at x) (mode_at x) (number_at x) (kids_of x) ≡ true
-row_of x shaped = (and_parts (is_bare (class_at x) (number_at x) (head_of x).name) _ (itself is_shaped x shaped)).1
 
 -- what is asked of a tree and of what it becomes
 pub record Fit (x y : Rtx) : Type 0 where
@@ -62,10 +61,6 @@ fit_second x y a b c d us vs are are' fit = record {
   plain = (both_of (all_pass is_plain_tree d) _
       (both_of (all_pass is_plain_tree b) _ (ap (list_all (all_pass is_plain_tree)) (sym are') ∙ within is_plain_tree y fit.plain)).1).0;
 }
-
-set_row : (c : Code) (mode : Mode) (number : ℕ) (a b : Rtx) → c ≡ code.Set → fits_row (class_of_code c) mode number (a ∷ b ∷ []) ≡ true → is_set_to a b ≡ true
-set_row code.Set mode number a b is fits = (and_parts (not (has_mode mode)) (is_set_to a b) fits).1
-set_row _ mode number a b is fits = absurd (let no : ⊥ = cc in no)
 
 pub untrue : (b : Bool) → not b ≡ true → b ≡ false
 untrue true is = absurd (let no : ⊥ = cc in no)

@@ -32,10 +32,7 @@ use Rattle.law_operands_replaced.proofs.ReadTrees.{read_in}
 use Rattle.law_operands_replaced.proofs.SetWidth.{set_width, no_register}
 use Rattle.law_operands_replaced.proofs.Turning.{IsSetting, setting_opened}
 use Rattle.law_operands_replaced.proofs.Valued.{IsThere, HasValue, AllValued, by_row, operand_valued, kids_valued}
-
-set_row : (c : Code) (mode : Mode) (number : ℕ) (a b : Rtx) → c ≡ code.Set → fits_row (class_of_code c) mode number (a ∷ b ∷ []) ≡ true → is_set_to a b ≡ true
-set_row code.Set mode number a b is fits = (and_parts (not (has_mode mode)) (is_set_to a b) fits).1
-set_row _ mode number a b is fits = absurd (let no : ⊥ = cc in no)
+use Rattle.law_operands_replaced.proofs.JumpTrees.{set_row}
 
 pub set_fits : (x t s : Rtx) → IsSetting x t s → is_shaped x ≡ true → is_set_to t s ≡ true
 set_fits x t s is shaped =

@@ -25,9 +25,7 @@ use Rattle.law_predicates.specs.Meaning.{Stands, AreMeant, HoldsAreMeant}
 use Rattle.law_predicates.proofs.Firsts.{first_form, found_defines}
 use Rattle.law_predicates.proofs.Names.{head_there}
 use Rattle.law_predicates.proofs.Judged.{stands_so, taken, taken_accepted, are_judged}
-
-none_some : {A : Type 0} (x : A) → ◌≡◌ {A = Option A} None (Some x) → ⊥
-none_some x e = cc
+use Rattle.law_predicates.proofs.Drafts.{no_some}
 
 aside : (r : Reason) (f : Form) → ◌≡◌ {A = Result Form Reason} (Err r) (Ok f) → ⊥
 aside r f e = cc
@@ -65,9 +63,9 @@ module _ (constants : List Constant) (forms : List Instance) where
   -- a predicate without a definition, that the manual hasn't either
   undefined : (name : List ℕ) → own_named name ≡ None → find (defines name) forms ≡ None →
       IsAccepted constants forms name → ⊥
-  undefined name none nothing (IsAccepted.own _ o is) = none_some o (sym none ∙ is)
+  undefined name none nothing (IsAccepted.own _ o is) = no_some o (sym none ∙ is)
   undefined name none nothing (IsAccepted.defined _ form h t there def rest) =
-      none_some form (sym nothing ∙ there)
+      no_some form (sym nothing ∙ there)
 
   -- ---- from the equation of `holds`
 

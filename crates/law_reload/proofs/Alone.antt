@@ -38,7 +38,7 @@ note_code rtl.Use is = inl refl
 note_code rtl.Clobber is = inr refl
 note_code _ is = absurd (false≢true is)
 
-turned : (b : Bool) → not b ≡ false → b ≡ true
+pub turned : (b : Bool) → not b ≡ false → b ≡ true
 turned true is = refl
 turned false is = sym is
 

@@ -18,11 +18,7 @@ use Rattle.rtl_func.specs.Kinds.{is_jump_by, is_jump_tree}
 use Rattle.rtl_func.specs.Shapes.{mode_at, number_at, class_at, has_mode, is_bare, is_constant, is_constant_class, is_counter_class, is_jump_source_class, is_comparison_class, is_label_class, is_choice, is_set_to, fits_row, is_shaped}
 use Rattle.rtl_func.proofs.AllPass.{all_pass, itself, within}
 use Rattle.law_homes.specs.Placed.{source_label, label_by, names_constant}
-
-row_of : (x : Rtx) → all_pass is_shaped x ≡ true → fits_row (class_at x) (mode_at x) (number_at x)
-    (kids_of x) ≡ true
-row_of x shaped = (and_parts (is_bare (class_at x) (number_at x) (head_of x).name) _
-    (itself is_shaped x shaped)).1
+use Rattle.law_reload.proofs.KeepsVars.{row_of}
 
 -- ---- a label
 

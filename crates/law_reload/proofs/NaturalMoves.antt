@@ -29,12 +29,9 @@ use Rattle.reload_moves.specs.Registers.{asks_of, ask, base_ask, holds_base, is_
 use Rattle.reload_moves.specs.Moves.{own_of, base_of, far_of, end_far_of, far_to, base_load, base_moves, in_load, in_moves, far_moves, out_store, out_moves, turn_moves, moves_before, moves_after, loads_base, comes_in_first, stays_far_first}
 use Rattle.law_reload_moves.specs.reload_fit.Addressed.{address_on, addressed_by, address_in, on_register, slot_offset, slot_far}
 use Rattle.law_reload_moves.specs.reload_choice.Insns.{set_of, set_reg, far_sum, slot_address, base_insn, base_insns, reached, in_insn, out_insn, insns_at, insns_of, all_insns, insns_before, insns_after}
+pub use Rattle.law_reload.proofs.KeepsVars.{both}
 
 -- ---- trees
-
-pub both : (a b : Bool) → a ≡ true → b ≡ true → a && b ≡ true
-both true b is more = more
-both false b is more = is
 
 pub natural_tree : (h : RtxHead) (kids : List Rtx) → is_natural h.code h.number ≡ true →
     list_all all_natural kids ≡ true → all_natural (tree_of h kids) ≡ true

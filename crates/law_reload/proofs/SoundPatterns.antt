@@ -25,6 +25,7 @@ use Rattle.law_reload.proofs.PatternLeaves.{OnOk}
 use Rattle.law_reload.proofs.FormLeaves.{forms_leaves}
 use Rattle.law_reload.proofs.SoleOperators.{first_distinct, sole_in}
 use Rattle.law_reload.proofs.Linked.{PatternsAreSound}
+use Rattle.law_reload.proofs.Alone.{turned}
 
 none_found : (test : Reason → Bool) (y : Reason) (xs : List Reason) → find test (y ∷ xs) ≡ None →
     (test y ≡ false) × (find test xs ≡ None)
@@ -34,10 +35,6 @@ none_found test y xs none = by (test y) refl none
         (test y ≡ false) × (find test xs ≡ None)
     by true is none = absurd (let no : ⊥ = cc in no)
     by false is none = (is, none)
-
-is_so : (b : Bool) → not b ≡ false → b ≡ true
-is_so true is = refl
-is_so false is = absurd (false≢true (sym is))
 
 -- a form gives no operand twice
 stand_distinct : (d : Draft) (n : ℕ) → operands_stand d n ≡ true →
@@ -60,7 +57,7 @@ reasonless tables d none =
     reason.Template ∷ []) one.1 in
     let three = none_found test reason.Attribute (reason.Operands ∷ reason.Template ∷ []) two.1 in
     let four = none_found test reason.Operands (reason.Template ∷ []) three.1 in
-    is_so (operands_stand d (alternatives_of tables d)) four.0
+    turned (operands_stand d (alternatives_of tables d)) four.0
 
 abbrev FormDistinct : Form → Type 0
 FormDistinct f = are_distinct (flat_map operands_in f.patterns) ≡ true

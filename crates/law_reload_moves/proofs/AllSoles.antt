@@ -31,7 +31,7 @@ use Rattle.law_operands_fetched.specs.reload_choice.Movable.{may_land}
 use Rattle.law_operands_fetched.specs.reload_choice.Sound.{IsSoundPlan}
 use Rattle.law_operands_fetched.specs.reload_choice.declared.given.Plan.{Plan}
 use Rattle.law_reload_moves.proofs.AllOrderly.{AllSole}
-use Rattle.law_reload_moves.proofs.Chosen.{given}
+use Rattle.law_reload_moves.proofs.Chosen.{given, untrue}
 use Rattle.law_reload_moves.proofs.InputPlaces.{no_operator_of}
 use Rattle.law_reload_moves.proofs.NewsLaws.{operand_of_match}
 use Rattle.law_reload_moves.proofs.Orderly.{SetsMemory}
@@ -52,10 +52,6 @@ pub record MayEndHere (twice_before twice_after clobbered land : Bool) : Type 0 
   pub after : twice_after ≡ false
   pub kept : clobbered ≡ false
   pub lands : land ≡ true
-
-untrue : (b : Bool) → not b ≡ true → b ≡ false
-untrue true is = absurd (let no : ⊥ = cc in no)
-untrue false is = refl
 
 pub end_parts : (plain twice_before twice_after clobbered land : Bool) → (plain && (not twice_before && not twice_after)) && (not clobbered && land) ≡ true →
     MayEndHere twice_before twice_after clobbered land

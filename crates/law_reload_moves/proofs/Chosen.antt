@@ -49,7 +49,7 @@ stays_addressed asks p x r stays is = by p.needs.has_base (is_some p.needs.far)
     by false true is = refl
     by false false is = absurd (let no : ⊥ = cc in no)
 
-untrue : (b : Bool) → not b ≡ true → b ≡ false
+pub untrue : (b : Bool) → not b ≡ true → b ≡ false
 untrue true is = absurd (let no : ⊥ = cc in no)
 untrue false is = refl
 

@@ -59,7 +59,7 @@ pub not_low : (c : Code) (kids : List Rtx) → c ≢ code.Subreg → taken_at_by
 not_low code.Subreg kids other = absurd (other refl)
 not_low _ kids other = refl
 
-register_code : (c : Code) (n : ℤ) (kids : List Rtx) (r : ℕ) → register_by c n kids ≡ Some r → (c ≡ code.Reg) ⊎ (c ≡ code.Subreg)
+pub register_code : (c : Code) (n : ℤ) (kids : List Rtx) (r : ℕ) → register_by c n kids ≡ Some r → (c ≡ code.Reg) ⊎ (c ≡ code.Subreg)
 register_code code.Reg n kids r is = inl refl
 register_code code.Subreg n kids r is = inr refl
 register_code _ n kids r is = absurd (let no : ⊥ = cc in no)

@@ -104,10 +104,10 @@ some_leave q (d ∷ ds) es among leave = (one_of q d es among.0 leave, some_leav
 pub leaf_free : (x : Rtx) → is_no_memory x ≡ true → kids_of x ≡ [] → all_pass is_no_memory x ≡ true
 leaf_free x here none = pass_out is_no_memory x ∙ ap (λ b. b && list_all (all_pass is_no_memory) (kids_of x)) here ∙ ap (list_all (all_pass is_no_memory)) none
 
-reg_free : (r : ℕ) → all_pass is_no_memory (reg_of DI r) ≡ true
+pub reg_free : (r : ℕ) → all_pass is_no_memory (reg_of DI r) ≡ true
 reg_free r = leaf_free (reg_of DI r) (ap (λ (o : Rtx-F Rtx). no_memory_class (class_of_code o.code)) (out-roll-Rtx _)) (ap (λ (o : Rtx-F Rtx). o.kids) (out-roll-Rtx _))
 
-const_free : (n : ℤ) → all_pass is_no_memory (const_of n) ≡ true
+pub const_free : (n : ℤ) → all_pass is_no_memory (const_of n) ≡ true
 const_free n = leaf_free (const_of n) (ap (λ (o : Rtx-F Rtx). no_memory_class (class_of_code o.code)) (out-roll-Rtx _)) (ap (λ (o : Rtx-F Rtx). o.kids) (out-roll-Rtx _))
 
 sp_free : (none : Bool) (n : ℤ) → all_pass is_no_memory (if none then reg_of DI 2 else node_of code.Plus DI (reg_of DI 2 ∷ const_of n ∷ [])) ≡ true

@@ -155,7 +155,7 @@ parts_fit k mode number _ _ low (next x x' _ _ a (next y y' _ _ b none)) fits = 
 parts_fit k mode number _ _ low (next x x' _ _ a (next y y' _ _ b (next z z' _ _ c none))) fits = three_fits k mode x y z x' y' z' a b c fits
 parts_fit k mode number _ _ low (next x x' _ _ a (next y y' _ _ b (next z z' _ _ c (next v v' xs ys d more)))) fits = absurd (let no : ⊥ = cc in no)
 
-effects_fit : (xs ys : List Rtx) → AllAlike xs ys → list_all is_effect xs ≡ true → list_all is_effect ys ≡ true
+pub effects_fit : (xs ys : List Rtx) → AllAlike xs ys → list_all is_effect xs ≡ true → list_all is_effect ys ≡ true
 effects_fit _ _ none fits = refl
 effects_fit _ _ (next x y xs ys a more) fits =
     let both = and_parts (is_effect x) _ fits in ap (λ b. b && list_all is_effect ys) (effect_is x y a ∙ both.0) ∙ effects_fit xs ys more both.1

@@ -67,7 +67,7 @@ is_operator_as _ = false
 
 -- ---- numbers
 
-same_numbers : (k n : ℕ) → (n == k) || false ≡ true → n ≡ k
+pub same_numbers : (k n : ℕ) → (n == k) || false ≡ true → n ≡ k
 same_numbers k n is = grind (arith, nat_tests, is)
 
 -- the placeholder of an operand with a number; an operator with it

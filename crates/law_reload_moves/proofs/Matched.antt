@@ -29,11 +29,9 @@ use Rattle.law_operands_fetched.proofs.reload_homes.Rewrites.{homed_over}
 use Rattle.law_operands_fetched.specs.reload_operands.Put.{is_lowpart_code, is_lowpart, any_inside, is_inside, inside_low}
 use Rattle.law_operands_fetched.proofs.reload_operands.InsideLaws.{inside_operand, inside_operator, inside_itself}
 use Rattle.law_operands_fetched.specs.law_operands_replaced.Places.{AtOnePlace, first, later, StandsFor, itself, part}
+pub use Rattle.law_reload_moves.proofs.FramedTrees.{row_of}
 
 -- ---- trees within the table
-
-pub row_of : (x : Rtx) → is_shaped x ≡ true → fits_row (class_at x) (mode_at x) (number_at x) (kids_of x) ≡ true
-row_of x shaped = (and_parts (is_bare (class_at x) (number_at x) (head_of x).name) _ shaped).1
 
 no_kids_by : (k : Class) (mode : Mode) (number : ℕ) (kids : List Rtx) → k ≡ class.Register → fits_row k mode number kids ≡ true → kids ≡ []
 no_kids_by class.Register mode number [] is fits = refl

@@ -30,22 +30,14 @@ use Rattle.law_operands_fetched.proofs.law_operands_replaced.Keyed.{Keyed}
 use Rattle.law_reload_moves.proofs.OutEffects.{IsPlaceSet, in_register, in_memory, IsOut, StandsOut, set_again, own_value, set_effects, there_after, among_there, all_there, ends_near}
 use Rattle.law_reload_moves.proofs.SteadyAddress.{Leaves, AllLeave, all_leave, AreLeft}
 use Rattle.law_reload_moves.proofs.ResultsEnd.{Among, AllAmong, Reached, ReachedBy, EndsNear}
+use Rattle.law_reload_moves.proofs.GivenSteady.{some_leave}
 
 -- ---- registers that effects leave
-
-one_left : (q : ℕ) (e : Effect) (es : List Effect) → Among e es → AllLeave q es → Leaves q e
-one_left q e [] among leave = absurd among
-one_left q e (o ∷ es) (inl same) leave = subst (Leaves q) (sym same) leave.0
-one_left q e (o ∷ es) (inr more) leave = one_left q e es more leave.1
-
-some_left : (q : ℕ) (ds es : List Effect) → AllAmong ds es → AllLeave q es → AllLeave q ds
-some_left q [] es among leave = tt
-some_left q (d ∷ ds) es among leave = (one_left q d es among.0 leave, some_left q ds es among.1 leave)
 
 -- a state that is reached has them still
 pub reached_left : (es : List Effect) (regs : Regs) (m : List MemByte) (r0 : Regs) (n : List MemByte) → Reached es regs m r0 n → AreLeft es regs r0
 reached_left es regs m r0 n reached q leave =
-    ap (λ (r : Regs). get r q) reached.regs_are ∙ all_leave q reached.made regs (some_left q reached.made es reached.among leave)
+    ap (λ (r : Regs). get r q) reached.regs_are ∙ all_leave q reached.made regs (some_leave q reached.made es reached.among leave)
 
 module _ (symbols : List SymbolAt) (regs : Regs) (m : List MemByte) (es : List Effect) (there : AreThere m es) where
   -- an effect that is among them is there still

@@ -42,7 +42,7 @@ use Rattle.law_operands_fetched.proofs.law_operands_replaced.ElementTurns.{memor
 use Rattle.law_operands_fetched.proofs.law_operands_replaced.Ends.{Stays, Ended, far_end}
 use Rattle.law_operands_fetched.proofs.law_operands_replaced.Fetches.{IsFresh, offset_by}
 use Rattle.law_operands_fetched.proofs.Fetching.{spare_some, spare_no_pointer}
-use Rattle.law_reload_moves.proofs.GivenSteady.{leaf_free}
+use Rattle.law_reload_moves.proofs.GivenSteady.{leaf_free, reg_free, const_free}
 use Rattle.law_operands_fetched.proofs.law_operands_replaced.Keyed.{Keyed, effects_in}
 use Rattle.law_reload_moves.proofs.NearEnds.{there_still, reached_left}
 use Rattle.law_operands_fetched.proofs.OnRegister.{IsOperand, based_class, based_new, far_mode, far_class, far_new}
@@ -53,12 +53,6 @@ use Rattle.law_operands_fetched.proofs.law_operands_replaced.SetWidth.{binary_no
 use Rattle.law_reload_moves.proofs.SteadyAddress.{AllLeave, no_memory_class, is_no_memory, memory_free}
 
 -- ---- addresses on a register
-
-reg_free : (r : ℕ) → all_pass is_no_memory (reg_of DI r) ≡ true
-reg_free r = leaf_free (reg_of DI r) (ap (λ (o : Rtx-F Rtx). no_memory_class (class_of_code o.code)) (out-roll-Rtx _)) (ap (λ (o : Rtx-F Rtx). o.kids) (out-roll-Rtx _))
-
-const_free : (n : ℤ) → all_pass is_no_memory (const_of n) ≡ true
-const_free n = leaf_free (const_of n) (ap (λ (o : Rtx-F Rtx). no_memory_class (class_of_code o.code)) (out-roll-Rtx _)) (ap (λ (o : Rtx-F Rtx). o.kids) (out-roll-Rtx _))
 
 -- no memory stands in them
 on_free : (none : Bool) (r : ℕ) (n : ℤ) → all_pass is_no_memory (if none then reg_of DI r else node_of code.Plus DI (reg_of DI r ∷ const_of n ∷ [])) ≡ true

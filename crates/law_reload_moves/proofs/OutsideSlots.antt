@@ -40,6 +40,7 @@ use Rattle.law_reload_moves.proofs.FramedTrees.{FrameCase, alone, sum, frame_cas
 use Rattle.law_reload_moves.proofs.LeftRegisters.{Changes, set_there}
 use Rattle.law_reload_moves.proofs.RowsThere.{effects_front, alone_front}
 use Rattle.law_operands_fetched.proofs.law_operands_replaced.WholeTurns.{is_parallel}
+use Rattle.law_reload_moves.proofs.ElementValues.{register_code}
 
 -- ---- trees with references to the frame put in
 
@@ -63,11 +64,6 @@ pub effect_framed : (size : ℕ) (x : Rtx) → is_effect x ≡ true → (head_of
 effect_framed size x effect =
     let e = framed_over size x (effect_over size x effect) in
     (ap head_of e ∙ head_of-tree (head_of x) (map (framed size) (kids_of x)), ap kids_of e ∙ kids_of-tree (head_of x) (map (framed size) (kids_of x)))
-
-register_codes : (c : Code) (n : ℤ) (kids : List Rtx) (r : ℕ) → register_by c n kids ≡ Some r → (c ≡ code.Reg) ⊎ (c ≡ code.Subreg)
-register_codes code.Reg n kids r is = inl refl
-register_codes code.Subreg n kids r is = inr refl
-register_codes _ n kids r is = absurd (let no : ⊥ = cc in no)
 
 -- a register is no memory, also with references put in
 reg_no_memory : (size : ℕ) (t : Rtx) → ((head_of t).code ≡ code.Reg) ⊎ ((head_of t).code ≡ code.Subreg) → (head_of (framed size t)).code ≡ code.Mem → ⊥
@@ -143,7 +139,7 @@ module _ (c : Setting) (place : ℕ) (i : Insn) (at : slice_get c.f.insns place 
       let set : set_effect c.world.symbols s.regs s.memory k.0 k.1.0 ≡ Some e =
       sym (ap (λ c'. effect_by c' (kids_of y) c.world.symbols s.regs s.memory) set_is ∙ ap (λ ks. effect_by code.Set ks c.world.symbols s.regs s.memory) k.1.1.0) ∙ does in
       let reg_is = set_there c.world.symbols s.regs s.memory k.0 k.1.0 e reg set changes in
-      reg_no_memory c.layout.size k.0 (register_codes (head_of k.0).code (head_of k.0).number (kids_of k.0) reg reg_is)
+      reg_no_memory c.layout.size k.0 (register_code (head_of k.0).code (head_of k.0).number (kids_of k.0) reg reg_is)
       (ap (λ (x : Rtx). (head_of x).code) k.1.1.1 ∙ memory)
 
   one_away : (y : Rtx) (e e' : Effect) → is_effect y ≡ true → effect_of c.world.symbols s.regs s.memory y ≡ Some e → BecomesInHomes c.homes c.layout (base c) e e' →

@@ -50,7 +50,7 @@ use Rattle.law_reload_moves.proofs.OutEffects.{IsOut, StandsOut}
 use Rattle.law_reload_moves.proofs.OwnHeld.{one_stays, own_held, own_fresh, own_gives}
 use Rattle.law_reload_moves.proofs.PlainAround.{are_keys}
 use Rattle.law_reload_moves.proofs.PlainInner.{g, other, Effects, plain_keyed}
-use Rattle.law_reload_moves.proofs.ResultEnds.{OutOf}
+use Rattle.law_reload_moves.proofs.ResultEnds.{OutOf, some_base}
 use Rattle.law_reload_moves.proofs.ResultsEnd.{Among, last_among, EndsFar}
 use Rattle.law_reload_moves.proofs.ResultsHeld.{IsLast}
 use Rattle.law_reload_moves.proofs.ResultsMayEnd.{list, hs}
@@ -79,10 +79,6 @@ value_holds r reg (Some v) each = (each v refl, tt)
 some_there : (o : Option ℕ) → is_some o ≡ true → (v : ℕ) × (o ≡ Some v)
 some_there None is = absurd (let no : ⊥ = cc in no)
 some_there (Some v) is = (v, refl)
-
-the_base : (o : Option Base) → is_some o ≡ true → (b : Base) × (o ≡ Some b)
-the_base None is = absurd (let no : ⊥ = cc in no)
-the_base (Some b) is = (b, refl)
 
 module _ (homes : List HomeOf) (layout : Layout) (kind : Kind) (w pattern : Rtx) (found : Ops) (plan : Plan)
     (symbols : List SymbolAt) (regs : Regs) (m : List MemByte) (sp : ℕ)
@@ -152,7 +148,7 @@ module _ (homes : List HomeOf) (layout : Layout) (kind : Kind) (w pattern : Rtx)
       p.needs.has_base ≡ true → (out : IsOut symbols regs m x.tree s e) → (r : Regs) (n : List MemByte) → IsThere n e → Holds r (bases p) →
       StandsOut symbols r n x.tree (on_register (base_of asks p) x) out.width out.value e
   based i p x s e part is has out r n there holds =
-      let b = the_base x.base ((f.sound.says i p x part).base has) in
+      let b = some_base x.base ((f.sound.says i p x part).base has) in
       let v = some_there (slot b.0) (f.slots p.place x b.0 part.of b.1) in
       let list_is : bases p ≡ record { reg = base_of asks p; width = W64; value = v.0 } ∷ [] =
       ap (λ c. if c then of_operand (base_of asks p) (slice_get (given homes layout kind w pattern found plan).operands p.place) else []) has ∙

@@ -53,7 +53,7 @@ use Rattle.law_reload_moves.proofs.OwnHeld.{none_last, one_stays, own_held, own_
 use Rattle.law_reload_moves.proofs.PlainInner.{g, Effects, plain_keyed}
 use Rattle.law_reload_moves.proofs.ResultRows.{Key, keyed_row}
 use Rattle.law_reload_moves.proofs.ResultsEnd.{Among, last_among, besides, Reached, reached_all, EndsNear, EndsFar}
-use Rattle.law_reload_moves.proofs.ResultsHeld.{IsLast, last_row}
+use Rattle.law_reload_moves.proofs.ResultsHeld.{IsLast, last_row, spare_some}
 use Rattle.law_reload_moves.proofs.ResultsMayEnd.{list, hs}
 use Rattle.law_reload_moves.proofs.ResultsOrderly.{placed_keys}
 use Rattle.law_reload_moves.proofs.RowsThere.{AllRows, all_rows}
@@ -62,12 +62,9 @@ use Rattle.law_operands_fetched.proofs.Through.{holds_first, through_gives}
 use Rattle.law_operands_fetched.proofs.Window.{AllStay}
 use Rattle.law_operands_fetched.proofs.law_operands_replaced.WholeTurns.{AllNone}
 
-some_base : (o : Option Base) → is_some o ≡ true → (b : Base) × (o ≡ Some b)
+pub some_base : (o : Option Base) → is_some o ≡ true → (b : Base) × (o ≡ Some b)
 some_base None is = absurd (let no : ⊥ = cc in no)
 some_base (Some b) is = (b, refl)
-
-spare_some : (q : ℕ) → is_spare q ≡ true → q ≢ 0
-spare_some q is same = let e : is_spare 0 ≡ true = ap is_spare (sym same) ∙ is in let wrong : false ≡ true = e in let no : ⊥ = cc in no
 
 module _ (homes : List HomeOf) (layout : Layout) (kind : Kind) (w pattern : Rtx) (found : Ops) (plan : Plan)
     (symbols : List SymbolAt) (regs : Regs) (m : List MemByte) (sp : ℕ)

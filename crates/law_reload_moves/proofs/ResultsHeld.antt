@@ -111,7 +111,7 @@ last_here x xs j is = by (last_of xs j) refl
     }
 
 -- a register's number is not 0
-spare_some : (q : ℕ) → is_spare q ≡ true → q ≢ 0
+pub spare_some : (q : ℕ) → is_spare q ≡ true → q ≢ 0
 spare_some q is same = let e : is_spare 0 ≡ true = ap is_spare (sym same) ∙ is in let wrong : false ≡ true = e in let no : ⊥ = cc in no
 
 outputs_same : (b : Bool) (output output' : Bool) → not (output && output') || b ≡ true → output ≡ true → output' ≡ true → b ≡ true

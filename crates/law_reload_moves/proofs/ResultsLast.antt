@@ -38,11 +38,7 @@ use Rattle.law_operands_fetched.proofs.law_operands_replaced.Keying.{with_keys}
 use Rattle.law_reload_moves.proofs.ResultRows.{Key, Row, Rows, none, more, two_made}
 use Rattle.law_reload_moves.proofs.ResultsHeld.{IsLast, last_later, last_here}
 use Rattle.law_reload_moves.proofs.RowsThere.{made_over, made_front}
-use Rattle.law_reload_moves.proofs.SoleRows.{IsPlace, number_there, operand_there, key_is, passes_in}
-
-neither : (a b : Bool) → (a || b) ≡ false → (a ≡ false) × (b ≡ false)
-neither true b is = absurd (let no : ⊥ = cc in no)
-neither false b is = (refl, is)
+use Rattle.law_reload_moves.proofs.SoleRows.{IsPlace, number_there, operand_there, key_is, passes_in, none_other}
 
 -- ---- what stands for a target with the number of an operand
 
@@ -142,7 +138,7 @@ module _ (Result : ℤ → Option ℕ) (found : Ops) (n : ℕ) where
           ap (λ b'. any_inside (map (inside_low n) (a ∷ b ∷ [])) b' (kids_of v)) whole ∙ ap (any_inside (map (inside_low n) (a ∷ b ∷ [])) false) t.1.1.1.0) ∙ clear in
           key_is Result found n q a b is are (target_is a t.0 found n t.1.1.1.1 has
           (nodes.itself (no_operator_of n) a (and_parts (all_pass (no_operator_of n) a) _ within).0)
-          (neither (inside_low n a false t.0) (inside_low n b false t.1.0 || false) inside).0)
+          (none_other (inside_low n a false t.0) (inside_low n b false t.1.0 || false) inside).0)
 
       by : (c : Code) (kids : List Rtx) → (head_of q).code ≡ c → kids_of q ≡ kids → has_number n (set_by_parts c kids) ≡ true → key_of Result q ≡ Result (pos n)
       by code.Set (a ∷ b ∷ []) is are has = set_case a b is are has
@@ -173,7 +169,7 @@ module _ (homes : List HomeOf) (layout : Layout) (kind : Kind) (w pattern : Rtx)
       any_inside (map (inside_low n) qs) false vs ≡ false → list_any (sets_it n) qs ≡ true → IsLast (with_keys (map KeyOf qs) es) k
   last_found n k apart at _ _ _ none clear has = absurd (let no : ⊥ = cc in no)
   last_found n k apart at _ _ _ (more q v e qs vs es row rows) clear has =
-      let both = neither (inside_low n q false v) (any_inside (map (inside_low n) qs) false vs) clear in
+      let both = none_other (inside_low n q false v) (any_inside (map (inside_low n) qs) false vs) clear in
       elim (or_cases (sets_it n q) (list_any (sets_it n) qs) has) [
         | inl here ↦ last_here (record { key = KeyOf q; effect = e }) (with_keys (map KeyOf qs) es) k
             (set_key Result found n q v row.made (passes_in (no_operator_of n) pattern q row.effect apart) both.0 here ∙ at)

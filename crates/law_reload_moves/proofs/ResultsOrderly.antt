@@ -39,7 +39,7 @@ use Rattle.law_operands_fetched.proofs.law_operands_replaced.Keyed.{IsIn, MayPas
 use Rattle.law_operands_fetched.proofs.law_operands_replaced.Keying.{with_keys}
 use Rattle.law_reload_moves.proofs.ResultKeys.{result_places, result_in, keyed_result}
 use Rattle.law_reload_moves.proofs.ResultRows.{Key, Row, Rows, none, more}
-use Rattle.law_reload_moves.proofs.RowsThere.{all_rows}
+use Rattle.law_reload_moves.proofs.RowsThere.{all_rows, once_of}
 use Rattle.law_operands_fetched.proofs.law_operands_replaced.WholeTurns.{AllNone}
 
 -- ---- where none has a key
@@ -64,10 +64,6 @@ module _ (Result : ℤ → Option ℕ) where
   pub placed_keys : (c : Code) (p : Rtx) → (head_of p).code ≡ c → role_of c ≢ Itself → AllNone (map (key_of Result) (inputs.effects_by c p (kids_of p)))
   placed_keys code.Parallel p is other = absurd (other refl)
   placed_keys c p is other = (no_key (head_of p).code (kids_of p) (placed_code (head_of p).code (λ same. other (sym (ap role_of is) ∙ same))).0, tt)
-
-once_by : (b : Bool) → not b ≡ false → b ≡ true
-once_by true is = refl
-once_by false is = absurd (let no : ⊥ = cc in no)
 
 module _ (homes : List HomeOf) (layout : Layout) (kind : Kind) (w pattern : Rtx) (found : Ops) (plan : Plan)
     (sound : IsSoundPlan (given homes layout kind w pattern found plan) plan) (symbols : List SymbolAt) (regs : Regs) (m : List MemByte) (sp : ℕ)
@@ -123,7 +119,7 @@ module _ (homes : List HomeOf) (layout : Layout) (kind : Kind) (w pattern : Rtx)
               let end = ends_there homes layout kind w pattern found plan sound symbols regs m sp slot_is slots_apart operators h.q h.v h.e h.k h.row h.key in
               orderly homes layout kind w pattern found plan sound symbols regs m sp slot_is slots_apart (result_places plan.parts)
               (inputs.effects_of pattern) (inputs.effects_of w) es r.rows outside
-              (r.before (once_by (parallels_change_once w) end.before)) (r.after (once_by (parallels_change_once (hm w)) end.after))
+              (r.before (once_of (parallels_change_once w) end.before)) (r.after (once_of (parallels_change_once (hm w)) end.after))
               (all_soles homes layout kind w pattern found plan sound symbols regs m sp slot_is slots_apart operators
               (inputs.effects_of pattern) (inputs.effects_of w) es r.rows (λ n is. is)) inside
         ]

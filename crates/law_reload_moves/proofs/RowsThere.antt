@@ -72,7 +72,7 @@ made_over p w found is made = by (each_made (kids_of p) found) refl (sym (made_i
         let same : tree_of (head_of p) vs ≡ w = cc in
         (vs, (here, (ap head_of (sym same) ∙ head_of-tree (head_of p) vs, ap kids_of (sym same) ∙ kids_of-tree (head_of p) vs)))
 
-once_of : (b : Bool) → not b ≡ false → b ≡ true
+pub once_of : (b : Bool) → not b ≡ false → b ≡ true
 once_of true is = refl
 once_of false is = absurd (let no : ⊥ = cc in no)
 

@@ -41,7 +41,7 @@ use Rattle.law_reload_moves.proofs.Chosen.{given}
 use Rattle.law_operands_fetched.proofs.law_operands_replaced.ElementTurns.{target_key, key_by, key_of}
 use Rattle.law_reload_moves.proofs.GivenNews.{result_at}
 use Rattle.law_reload_moves.proofs.RowsThere.{made_over}
-use Rattle.law_reload_moves.proofs.InputPlaces.{is_operator_as, is_operator_of, no_operator_of}
+use Rattle.law_reload_moves.proofs.InputPlaces.{is_operator_as, is_operator_of, no_operator_of, same_numbers}
 use Rattle.law_reload_moves.proofs.Orderly.{SetsMemory}
 use Rattle.law_reload_moves.proofs.ResultRows.{Key, Row, Rows, none, more, two_made}
 use Rattle.law_reload_moves.proofs.TakenPlaces.{IsEffectOf}
@@ -62,9 +62,6 @@ place_by true false is changes = absurd (let no : ⊥ = cc in no)
 place_by false place is changes = absurd (let no : ⊥ = cc in no)
 
 -- ---- the number of a place
-
-same_numbers : (k n : ℕ) → (n == k) || false ≡ true → n ≡ k
-same_numbers k n is = grind (arith, nat_tests, is)
 
 pub number_there : (found : Ops) (n : ℤ) (k : ℕ) (t : Rtx) → operand_numbered found n ≡ Some t → has_number k (cast_unsigned w64 n ∷ []) ≡ true → n ≡ pos k
 number_there found (pos j) k t is has = ap pos (same_numbers k j has)

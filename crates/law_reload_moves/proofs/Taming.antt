@@ -20,16 +20,13 @@ use Rattle.law_operands_fetched.specs.law_homes.Tame as homes
 use Rattle.law_operands_fetched.proofs.law_homes.Setting.{Setting}
 use Rattle.law_operands_fetched.proofs.law_homes.Tamed.{AllTame, tame_none, tame_more}
 use Rattle.law_operands_fetched.specs.Tame.{IsHome, IsTame, AreTame}
+use Rattle.law_reload_moves.proofs.RowsThere.{once_of}
 
 -- ---- a register that is saved
 
 saved_same : (reg : ℕ) (saved : List SavedAt) → has_reg (map (λ (s : SavedAt). s.reg) saved) reg ≡ list_any (is_saved_at reg) saved
 saved_same reg [] = refl
 saved_same reg (s ∷ saved) = ap (λ rest. (s.reg == reg) || rest) (saved_same reg saved)
-
-not_false : (b : Bool) → not b ≡ false → b ≡ true
-not_false true is = refl
-not_false false is = absurd (let no : ⊥ = cc in no)
 
 second_false : (a b : Bool) → (a && b) ≡ false → a ≡ true → b ≡ false
 second_false true b is has = is
@@ -59,7 +56,7 @@ module _ (layout : Layout) (locals : ℕ) (start : Start) where
         no_pointer = λ same. omega (arith, least, same);
         no_spare = grind (arith, nat_tests, most);
         preserved = λ has. sym (saved_same reg layout.saved) ∙
-            not_false (has_reg (map (λ (s : SavedAt). s.reg) layout.saved) reg) (second_false (has_reg (return_address ∷ saved_registers) reg) _ free.saved has);
+            once_of (has_reg (map (λ (s : SavedAt). s.reg) layout.saved) reg) (second_false (has_reg (return_address ∷ saved_registers) reg) _ free.saved has);
       }
 
   -- one effect

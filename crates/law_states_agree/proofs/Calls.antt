@@ -27,7 +27,7 @@ use Rattle.law_line_terms.specs.law_insn_terms.Means.{ArgMeans, ArgsMean}
 use Rattle.law_line_terms.specs.ShowsLine.{ShowsNumber}
 use Rattle.law_states_agree.proofs.Behind.{cut, own_mean, zero_one, within_64}
 
-both_true : (a b : Bool) → (a && b) ≡ true → (a ≡ true) × (b ≡ true)
+pub both_true : (a b : Bool) → (a && b) ≡ true → (a ≡ true) × (b ≡ true)
 both_true true b is = (refl, is)
 both_true false b is = absurd (let no : ⊥ = cc in no)
 

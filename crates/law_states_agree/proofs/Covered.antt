@@ -30,10 +30,7 @@ use Rattle.law_line_terms.specs.law_insn_terms.Needs.{First, is_met}
 use Rattle.law_line_terms.specs.law_insn_terms.Means.{first_of, all_met}
 use Rattle.law_line_terms.proofs.law_insn_terms.Used.{IsGoodNeed, IsUsed}
 use Rattle.law_states_agree.proofs.Codes.{asked, asked_used}
-
-both_true : (a b : Bool) → (a && b) ≡ true → (a ≡ true) × (b ≡ true)
-both_true true b is = (refl, is)
-both_true false b is = absurd (let no : ⊥ = cc in no)
+use Rattle.law_states_agree.proofs.Calls.{both_true}
 
 pub same_terms : (t u : Tree) → same_tree t u ≡ true → t ≡ u
 same_terms t u same = (same-is t u).0 same

@@ -43,6 +43,7 @@ use Rattle.law_states_agree.proofs.Behind.{cut, known_value, IsKnown, kept_behin
 use Rattle.law_states_agree.proofs.Ends.{not_passed, none_calls}
 use Rattle.law_states_agree.proofs.Told.{Told}
 use Rattle.law_states_agree.proofs.Visible.{all_bytes, same_seen, seen_same}
+use Rattle.law_states_agree.proofs.Covered.{some_of}
 
 -- registers of a window that is no call are those that its state shows, and so are those that a call leaves
 left_same : (ending : InsnsEnd) (regs : Regs) (reg : ℕ) (w : Width) → IsKept ending reg → reg_value (left_at ending regs) reg w ≡ reg_value regs reg w
@@ -50,10 +51,6 @@ left_same insns.Falls regs reg w kept = refl
 left_same (insns.Goes uid) regs reg w kept = refl
 left_same (insns.Calls event w') regs reg w kept = left_value (insns.Calls event w') regs reg w kept
 left_same insns.Returns regs reg w kept = refl
-
-some_of : (o : Option ℕ) → is_some o ≡ true → (x : ℕ) × (o ≡ Some x)
-some_of None is = absurd (let no : ⊥ = cc in no)
-some_of (Some x) is = (x, refl)
 
 none_of : (o : Option ℕ) → is_some o ≡ false → o ≡ None
 none_of None is = refl

@@ -11,6 +11,7 @@ use Rattle.rtx_tree.specs.declared.memories.MemByte.{MemByte}
 use Rattle.rtx_tree.specs.Memories.{IsOrdered, byte_at}
 use Rattle.run_memory.specs.RunMemory.{is_visible, visible}
 use Rattle.same_behaviour.specs.Lawful.{IsByte}
+use Rattle.law_states_agree.proofs.Calls.{other_reg}
 
 -- ---- in order, from an address on
 
@@ -36,9 +37,6 @@ rising_from least (b ∷ c ∷ bytes) ordered first =
 rising : (bytes : List MemByte) → IsOrdered bytes → Rising 0 bytes
 rising bytes ordered = rising_from 0 bytes ordered (λ b rest same. omega arith)
 
-other : (a b : ℕ) → a ≢ b → (a == b) ≡ false
-other a b differ = grind (arith, nat_tests, differ)
-
 same_address : (a : ℕ) → (a == a) ≡ true
 same_address a = grind (arith, nat_tests)
 
@@ -47,7 +45,7 @@ below_none least address [] up less = refl
 below_none least address (b ∷ bytes) up less =
     let at_least : least ≤ b.address = up.0 in
     let differ : b.address ≢ address = λ same. absurd (omega (arith, same, less, at_least)) in
-    ap (λ c. if c then Some b.byte else byte_at bytes address) (other b.address address differ) ∙ below_none (b.address + 1) address bytes up.1 (omega (arith, less, at_least))
+    ap (λ c. if c then Some b.byte else byte_at bytes address) (other_reg b.address address differ) ∙ below_none (b.address + 1) address bytes up.1 (omega (arith, less, at_least))
 
 first_at : (b : MemByte) (bytes : List MemByte) → byte_at (b ∷ bytes) b.address ≡ Some b.byte
 first_at b bytes = ap (λ c. if c then Some b.byte else byte_at bytes b.address) (same_address b.address)
@@ -99,7 +97,7 @@ module _ (xs ys : List MemByte) (x y : MemByte) where
       let high : x.address < address = grind (arith, nat_tests, more) in
       let one : x.address ≢ address = λ e. absurd (omega (arith, e, high)) in
       let two : y.address ≢ address = λ e. absurd (omega (arith, e, high, heads)) in
-      sym (ap (λ c. if c then Some x.byte else byte_at xs address) (other x.address address one)) ∙ same address ∙ ap (λ c. if c then Some y.byte else byte_at ys address) (other y.address address two)
+      sym (ap (λ c. if c then Some x.byte else byte_at xs address) (other_reg x.address address one)) ∙ same address ∙ ap (λ c. if c then Some y.byte else byte_at ys address) (other_reg y.address address two)
 
 same_bytes : (least : ℕ) (xs ys : List MemByte) → Rising least xs → Rising least ys → ((address : ℕ) → byte_at xs address ≡ byte_at ys address) → xs ≡ ys
 same_bytes least [] [] first second same = refl

@@ -14,9 +14,7 @@ use Rattle.dfa_ways.specs.Expression.{new_level, element_of, counted, behind_ter
 use Rattle.law_ways.specs.Grammar.{Regexp, Repeat, Element, Derives, unit, inner, once, times, is_said, AreDerived}
 use Rattle.law_ways.proofs.JoinedWays.{mapped, led, some_is}
 use Rattle.law_ways.proofs.Phrases.{IsLevel, new_is, behind_is, whole_is}
-
-none_some : {A : Type 0} (x : A) → None ≡ Some x → ⊥
-none_some x e = cc
+use Rattle.law_ways.proofs.LevelWays.{none_some}
 
 module _ (units : List (List ℕ)) where
   -- ---- what was read of a term

@@ -131,7 +131,7 @@ comma_sound l m term sound are e =
     let with_one = led with_part (behind_bar l term) m e in
     part_sound with_one.value m (bar_sound l with_one.value term sound are with_one.was) with_one.gives
 
-none_some : {A : Type 0} (x : A) → None ≡ Some x → ⊥
+pub none_some : {A : Type 0} (x : A) → None ≡ Some x → ⊥
 none_some x e = cc
 
 pub sign_sound : (k : Mark) (l m : Level) (term : Ways) → IsSound l → AreWays term → behind_term k l term ≡ Some m → IsSound m

@@ -16,7 +16,7 @@ use Rattle.dfa_ways.specs.Ways.{Ways, no_cycle, one_cycle, repeated}
 use Rattle.dfa_ways.specs.Expression.{new_level, units_of, element_of, count_by, count_of, counted, behind_term, whole, with_word, behind_word, term_of, star_behind, behind_star, opened, behind_open, closed, behind_close, behind_sign, behind_mark, behind, behind_all, ended_in, ended, start}
 use Rattle.law_ways.specs.Lawful.{AreWays}
 use Rattle.law_ways.proofs.JoinedWays.{mapped, led, tested, some_is}
-use Rattle.law_ways.proofs.LevelWays.{repeated_ways, IsSound, new_sound, sign_sound, whole_ways}
+use Rattle.law_ways.proofs.LevelWays.{repeated_ways, IsSound, new_sound, sign_sound, whole_ways, none_some}
 
 -- ---- what was read of a term
 
@@ -48,9 +48,6 @@ unfolding counted
 counted_ways word ways all are e =
     let times = led (λ count. repeated count no_cycle ways) (count_of word) all e in
     repeated_ways times.value ways all (count_some word times.value times.was) are times.gives
-
-none_some : {A : Type 0} (x : A) → None ≡ Some x → ⊥
-none_some x e = cc
 
 word_read : (units : List (List ℕ)) (r s : Read) (word : List ℕ) → IsRead r → with_word units r word ≡ Some s → IsRead s
 unfolding with_word

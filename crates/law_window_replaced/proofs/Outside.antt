@@ -105,10 +105,10 @@ not_result reg kept is = let no : true ≡ false = sym (ap is_call_used is) ∙ 
 pub no_jump : (k : Kind) (i : Insn) → i.kind ≡ k → k ≢ kind.Jump → i.kind ≢ kind.Jump
 no_jump k i is other jumps = other (sym is ∙ jumps)
 
-plain_not : kind.Plain ≢ kind.Jump
+pub plain_not : kind.Plain ≢ kind.Jump
 plain_not is = cc
 
-call_not : kind.Call ≢ kind.Jump
+pub call_not : kind.Call ≢ kind.Jump
 call_not is = cc
 
 module _ (c : Setting) (s t : State) (q other : ℕ) (i : Insn) (there : slice_get c.f.insns q ≡ Some i) (alike : Alike c q s t)

@@ -34,7 +34,7 @@ use Rattle.law_window_replaced.proofs.Known.{both_of}
 use Rattle.law_window_replaced.proofs.Machine.{End, then_more, turn, stop, weight, Any}
 use Rattle.law_window_replaced.proofs.Memory.{memory_effects}
 use Rattle.law_window_replaced.proofs.Onward.{never, returns_both, onward_at}
-use Rattle.law_window_replaced.proofs.Outside.{insn_both, plain_defines}
+use Rattle.law_window_replaced.proofs.Outside.{insn_both, plain_defines, plain_not, call_not}
 use Rattle.law_window_replaced.proofs.Setting.{Setting, Site, new_of, Alike, Waits, Related, outside, inside, Moves, Simulates, EndsWell}
 use Rattle.law_window_replaced.proofs.Stands.{Stands, stands_behind, stands_mark, there_is, step_is, step_returns, end_is, past_end}
 use Rattle.law_window_replaced.proofs.Twins.{first_no_label, rest_leads}
@@ -45,14 +45,8 @@ use Rattle.law_window_lines.proofs.Places.{mark_calls_not, mark_jumps_not}
 kind_jumps_not : (i : Insn) (k : Kind) → i.kind ≡ k → k ≢ kind.Jump → i.kind ≢ kind.Jump
 kind_jumps_not i k is other jumps = other (sym is ∙ jumps)
 
-plain_not : kind.Plain ≢ kind.Jump
-plain_not is = cc
-
 barrier_not : kind.Barrier ≢ kind.Jump
 barrier_not is = cc
-
-call_not : kind.Call ≢ kind.Jump
-call_not is = cc
 
 module _ (c : Setting) where
   alike_mark : (s t : State) (q : ℕ) (i : Insn) → slice_get c.f.insns q ≡ Some i → is_mark i.kind ≡ true → Alike c q s t →

@@ -1,10 +1,10 @@
 -- Which predicates of a description hold: GCC Internals, "Machine-Independent Predicates" and
 -- "Defining Machine-Specific Predicates". A predicate that reaches itself is accepted within no
 -- number of rounds.
-use Rattle.std.specs.Prelude.{ℕ, zero, suc, Bool, false, ◌&&◌, ◌||◌, List, map, option_and_then, slice_get, unwrap_or}
+use Rattle.std.specs.Prelude.{ℕ, zero, suc, Bool, false, ◌&&◌, ◌||◌, List, map, option_and_then, position, slice_get, unwrap_or}
 use Rattle.std.specs.List.{list_all}
 use Rattle.std.specs.Option.{is_some}
-use Rattle.name_places.specs.Names.{place_named}
+use Rattle.std.specs.Str.{bytes_eq}
 use Rattle.md_operand.specs.Operand.{own_named}
 use Rattle.md_tables.specs.declared.tables.PredicateDraft.{PredicateDraft}
 
@@ -15,7 +15,7 @@ is_own name = is_some (own_named name)
 -- the first definition of a name is one of the accepted
 abbrev pub is_accepted : List PredicateDraft → List Bool → List ℕ → Bool
 is_accepted ds accepted name =
-    unwrap_or (option_and_then (slice_get accepted) (place_named (λ d. d.name) ds name)) false
+    unwrap_or (option_and_then (slice_get accepted) (position (λ d. bytes_eq d.name name) ds)) false
 
 -- a predicate that has no definition, or an accepted one
 abbrev pub is_known : List PredicateDraft → List Bool → List ℕ → Bool

@@ -10,6 +10,7 @@ mod entry;
 mod form;
 mod forms;
 mod heads;
+mod notation;
 mod operands;
 mod part;
 mod row;

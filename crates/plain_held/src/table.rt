@@ -1,380 +1,125 @@
 //! The table of the plain forms.
 ghost use Rattle.plain_held.specs.Parts.{AreRows, forms_from};
 
-use crate::row::{Asked, Constrained, Node, Row};
-use crate::words::{
-    ALWAYS, ARE_ADDED, FORCES_DI, FORCES_HI, FORCES_QI, FORCES_SI, IS_MASK, IS_SHORT, IS_SPLIT,
-    IS_ZERO, MAKES_COUNT, MAKES_REGISTERS, MAKES_SUM, MOVES_DI, MOVES_HI, MOVES_QI, MOVES_SI,
-    NOTHING, TO_31, TO_63, VALUE_IS_ZERO,
-};
+use crate::notation::BARE;
+use crate::notation::BINARY;
+use crate::notation::CALL;
+use crate::notation::CALLED;
+use crate::notation::CHOICE;
+use crate::notation::EXTENDED;
+use crate::notation::FROM_ZERO;
+use crate::notation::LABEL;
+use crate::notation::MOVED;
+use crate::notation::OR_I;
+use crate::notation::OR_K;
+use crate::notation::OR_L;
+use crate::notation::OR_MEMORY;
+use crate::notation::PC;
+use crate::notation::SET;
+use crate::notation::SUM;
+use crate::notation::UNARY;
+use crate::notation::WITH_ZERO;
+use crate::notation::again;
+use crate::notation::anything;
+use crate::notation::at;
+use crate::notation::at_least;
+use crate::notation::at_most;
+use crate::notation::binary;
+use crate::notation::called;
+use crate::notation::compares;
+use crate::notation::comparison;
+use crate::notation::constant;
+use crate::notation::constraint;
+use crate::notation::equals;
+use crate::notation::equals_zero;
+use crate::notation::expand;
+use crate::notation::extend;
+use crate::notation::general;
+use crate::notation::insn;
+use crate::notation::leaf;
+use crate::notation::less;
+use crate::notation::minus;
+use crate::notation::more;
+use crate::notation::moved;
+use crate::notation::nonimmediate;
+use crate::notation::of;
+use crate::notation::one;
+use crate::notation::operand;
+use crate::notation::or_constant;
+use crate::notation::predicate;
+use crate::notation::register;
+use crate::notation::register_or_0;
+use crate::notation::register_or_int;
+use crate::notation::shift;
+use crate::notation::standard_move;
+use crate::notation::truncate;
+use crate::notation::two;
+use crate::notation::unary;
+use crate::notation::wide;
+use crate::notation::wide_shift;
+use crate::row::Asked;
+use crate::row::Constrained;
+use crate::row::Node;
+use crate::row::Row;
+use crate::words::ARE_ADDED;
+use crate::words::FORCES_DI;
+use crate::words::FORCES_HI;
+use crate::words::FORCES_QI;
+use crate::words::FORCES_SI;
+use crate::words::IS_MASK;
+use crate::words::IS_SHORT;
+use crate::words::IS_SPLIT;
+use crate::words::IS_ZERO;
+use crate::words::MAKES_COUNT;
+use crate::words::MAKES_REGISTERS;
+use crate::words::MAKES_SUM;
+use crate::words::MOVES_DI;
+use crate::words::MOVES_HI;
+use crate::words::MOVES_QI;
+use crate::words::MOVES_SI;
+use crate::words::NOTHING;
+use crate::words::TO_31;
+use crate::words::TO_63;
+use crate::words::VALUE_IS_ZERO;
 use md_forms::FormHead;
-use rtx_tree::Code::{
-    And, Ashift, Ashiftrt, Call, ConstInt, Div, Eq, Ge, Geu, Gt, Gtu, IfThenElse, Ior, LabelRef,
-    Le, Leu, Lshiftrt, Lt, Ltu, MatchDup, MatchOperand, MatchOperator, Mem, Minus, Mod, Mult, Ne,
-    Neg, Not, Pc, Plus, Return, Set, SignExtend, Truncate, Udiv, Umod, Xor, ZeroExtend,
-};
-use rtx_tree::Mode::{DI, HI, QI, SI, Void};
-
-// ---- patterns
-
-macro_rules! operand {
-    ($predicate:expr, $number:expr, $mode:expr) => {
-        Node {
-            code: MatchOperand,
-            mode: $mode,
-            number: $number,
-            name: $predicate,
-            parts: 0,
-        }
-    };
-}
-
-macro_rules! register {
-    ($number:expr, $mode:expr) => {
-        operand!("register_operand", $number, $mode)
-    };
-}
-
-macro_rules! register_or_0 {
-    ($number:expr, $mode:expr) => {
-        operand!("reg_or_0_operand", $number, $mode)
-    };
-}
-
-macro_rules! register_or_int {
-    ($number:expr, $mode:expr) => {
-        operand!("reg_or_int_operand", $number, $mode)
-    };
-}
-
-macro_rules! constant {
-    ($number:expr, $mode:expr) => {
-        operand!("const_int_operand", $number, $mode)
-    };
-}
-
-macro_rules! nonimmediate {
-    ($number:expr, $mode:expr) => {
-        operand!("nonimmediate_operand", $number, $mode)
-    };
-}
-
-macro_rules! general {
-    ($number:expr, $mode:expr) => {
-        operand!("general_operand", $number, $mode)
-    };
-}
-
-macro_rules! called {
-    ($number:expr) => {
-        operand!("call_operand", $number, DI)
-    };
-}
-
-macro_rules! anything {
-    ($number:expr) => {
-        operand!("", $number, Void)
-    };
-}
-
-macro_rules! comparison {
-    ($number:expr) => {
-        Node {
-            code: MatchOperator,
-            mode: Void,
-            number: $number,
-            name: "ordered_comparison_operator",
-            parts: 2,
-        }
-    };
-}
-
-macro_rules! leaf {
-    ($code:expr, $number:expr) => {
-        Node {
-            code: $code,
-            mode: Void,
-            number: $number,
-            name: "",
-            parts: 0,
-        }
-    };
-}
-
-macro_rules! again {
-    ($number:expr) => {
-        leaf!(MatchDup, $number)
-    };
-}
-
-/// An expression of a code and a mode, of some parts.
-macro_rules! of {
-    ($code:expr, $mode:expr, $parts:expr) => {
-        Node {
-            code: $code,
-            mode: $mode,
-            number: 0,
-            name: "",
-            parts: $parts,
-        }
-    };
-}
-
-const SET: Node = of!(Set, Void, 2);
-
-const PC: Node = leaf!(Pc, 0);
-
-const LABEL: Node = of!(LabelRef, Void, 1);
-
-const CALLED: Node = of!(Mem, SI, 1);
-
-const CALL: Node = of!(Call, Void, 2);
-
-const CHOICE: Node = of!(IfThenElse, Void, 3);
-
-const EXTENDED: Node = of!(SignExtend, DI, 1);
-
-const SUM: Node = of!(Plus, DI, 2);
-
-// ---- constraints
-
-macro_rules! at {
-    ($operand:expr, $text:expr) => {
-        Constrained {
-            operand: $operand,
-            text: $text,
-        }
-    };
-}
-
-const UNARY: &[Constrained] = &[at!(0, "=r"), at!(1, "r")];
-
-const BINARY: &[Constrained] = &[at!(0, "=r"), at!(1, "r"), at!(2, "r")];
-
-const FROM_ZERO: &[Constrained] = &[at!(0, "=r"), at!(1, "rJ"), at!(2, "r")];
-
-const WITH_ZERO: &[Constrained] = &[at!(0, "=r"), at!(1, "r"), at!(2, "rJ")];
-
-const OR_I: &[Constrained] = &[at!(0, "=r,r"), at!(1, "r,r"), at!(2, "r,I")];
-
-const OR_K: &[Constrained] = &[at!(0, "=r,r"), at!(1, "r,r"), at!(2, "r,K")];
-
-const OR_L: &[Constrained] = &[at!(0, "=r,r"), at!(1, "r,r"), at!(2, "r,L")];
-
-const OR_MEMORY: &[Constrained] = &[at!(0, "=r,r"), at!(1, "r,m")];
-
-const MOVED: &[Constrained] = &[at!(0, "=r,r,r,m"), at!(1, "r,n,m,rJ")];
-
-// ---- rows
-
-/// A form that says nothing but its head.
-const BARE: Row = Row {
-    head: FormHead::Insn,
-    name: None,
-    patterns: &[],
-    condition: ALWAYS,
-    split_condition: ALWAYS,
-    statements: NOTHING,
-    sequence: &[],
-    constraints: &[],
-    template: "",
-    test: Asked::Nothing,
-};
-
-macro_rules! constraint {
-    ($name:expr, $words:expr) => {
-        Row {
-            head: FormHead::Constraint,
-            name: Some($name),
-            test: Asked::Constant($words),
-            ..BARE
-        }
-    };
-}
-
-macro_rules! predicate {
-    ($name:expr, $test:expr) => {
-        Row {
-            head: FormHead::Predicate,
-            name: Some($name),
-            test: $test,
-            ..BARE
-        }
-    };
-}
-
-macro_rules! expand {
-    ($name:expr, $patterns:expr, $statements:expr) => {
-        Row {
-            head: FormHead::Expand,
-            name: Some($name),
-            patterns: $patterns,
-            statements: $statements,
-            ..BARE
-        }
-    };
-}
-
-macro_rules! insn {
-    ($name:expr, $patterns:expr, $constraints:expr, $template:expr) => {
-        Row {
-            name: Some($name),
-            patterns: $patterns,
-            constraints: $constraints,
-            template: $template,
-            ..BARE
-        }
-    };
-}
-
-macro_rules! standard_move {
-    ($name:expr, $mode:expr, $statements:expr) => {
-        expand!($name, &[nonimmediate!(0, $mode), general!(1, $mode), SET], $statements)
-    };
-}
-
-macro_rules! moved {
-    ($name:expr, $mode:expr, $condition:expr, $constraints:expr, $template:expr) => {
-        Row {
-            name: Some($name),
-            patterns: &[nonimmediate!(0, $mode), general!(1, $mode), SET],
-            condition: $condition,
-            constraints: $constraints,
-            template: $template,
-            ..BARE
-        }
-    };
-}
-
-/// An operation on one operand, of which the value is put into a register.
-macro_rules! one {
-    ($name:expr, $code:expr, $mode:expr, $a:expr, $constraints:expr, $template:expr) => {
-        insn!($name, &[register!(0, $mode), $a, of!($code, $mode, 1), SET], $constraints, $template)
-    };
-}
-
-/// An operation on two operands, likewise.
-macro_rules! two {
-    ($name:expr, $code:expr, $mode:expr, $a:expr, $b:expr, $constraints:expr, $template:expr) => {
-        insn!(
-            $name,
-            &[register!(0, $mode), $a, $b, of!($code, $mode, 2), SET],
-            $constraints,
-            $template
-        )
-    };
-}
-
-/// Such an operation in SI, of which the value is extended.
-macro_rules! wide {
-    ($name:expr, $code:expr, $a:expr, $b:expr, $constraints:expr, $template:expr) => {
-        insn!(
-            $name,
-            &[register!(0, DI), $a, $b, of!($code, SI, 2), EXTENDED, SET],
-            $constraints,
-            $template
-        )
-    };
-}
-
-/// An operation on two registers.
-macro_rules! binary {
-    ($name:expr, $code:expr, $mode:expr, $template:expr) => {
-        two!($name, $code, $mode, register!(1, $mode), register!(2, $mode), BINARY, $template)
-    };
-}
-
-/// An operation on a register and a register or a constant.
-macro_rules! or_constant {
-    ($name:expr, $code:expr, $mode:expr, $template:expr) => {
-        two!($name, $code, $mode, register!(1, $mode), register_or_int!(2, $mode), OR_I, $template)
-    };
-}
-
-/// A difference.
-macro_rules! minus {
-    ($name:expr, $mode:expr, $template:expr) => {
-        two!($name, Minus, $mode, register_or_0!(1, $mode), register!(2, $mode), FROM_ZERO, $template)
-    };
-}
-
-/// A shift.
-macro_rules! shift {
-    ($name:expr, $code:expr, $mode:expr, $constraints:expr, $template:expr) => {
-        two!($name, $code, $mode, register!(1, $mode), register_or_int!(2, QI), $constraints, $template)
-    };
-}
-
-/// A shift in SI, of which the value is extended.
-macro_rules! wide_shift {
-    ($name:expr, $code:expr, $template:expr) => {
-        wide!($name, $code, register!(1, SI), register_or_int!(2, QI), OR_K, $template)
-    };
-}
-
-/// An operation on one register of the same mode.
-macro_rules! unary {
-    ($name:expr, $code:expr, $mode:expr, $template:expr) => {
-        one!($name, $code, $mode, register!(1, $mode), UNARY, $template)
-    };
-}
-
-/// A truncation.
-macro_rules! truncate {
-    ($name:expr, $from:expr, $to:expr) => {
-        one!($name, Truncate, $to, register!(1, $from), UNARY, "mv\\t%0,%1")
-    };
-}
-
-/// An extension of a register or memory.
-macro_rules! extend {
-    ($name:expr, $code:expr, $from:expr, $to:expr, $template:expr) => {
-        one!($name, $code, $to, nonimmediate!(1, $from), OR_MEMORY, $template)
-    };
-}
-
-/// A comparison of a register in DI and a register or a constant.
-macro_rules! compares {
-    ($name:expr, $code:expr, $mode:expr, $constraints:expr, $template:expr) => {
-        two!($name, $code, $mode, register!(1, DI), register_or_int!(2, DI), $constraints, $template)
-    };
-}
-
-macro_rules! less {
-    ($code:expr, $mode:expr, $template:expr) => {
-        compares!("*less", $code, $mode, OR_I, $template)
-    };
-}
-
-macro_rules! more {
-    ($code:expr, $mode:expr, $template:expr) => {
-        compares!("*more", $code, $mode, WITH_ZERO, $template)
-    };
-}
-
-macro_rules! at_least {
-    ($code:expr, $mode:expr, $template:expr) => {
-        compares!("*atleast", $code, $mode, OR_I, $template)
-    };
-}
-
-macro_rules! at_most {
-    ($code:expr, $mode:expr, $template:expr) => {
-        compares!("*atmost", $code, $mode, WITH_ZERO, $template)
-    };
-}
-
-macro_rules! equals {
-    ($code:expr, $mode:expr, $template:expr) => {
-        compares!("*eqs", $code, $mode, BINARY, $template)
-    };
-}
-
-macro_rules! equals_zero {
-    ($code:expr, $mode:expr, $template:expr) => {
-        two!("*eqs0", $code, $mode, register!(1, DI), leaf!(ConstInt, 0), UNARY, $template)
-    };
-}
+use rtx_tree::Code::And;
+use rtx_tree::Code::Ashift;
+use rtx_tree::Code::Ashiftrt;
+use rtx_tree::Code::ConstInt;
+use rtx_tree::Code::Div;
+use rtx_tree::Code::Eq;
+use rtx_tree::Code::Ge;
+use rtx_tree::Code::Geu;
+use rtx_tree::Code::Gt;
+use rtx_tree::Code::Gtu;
+use rtx_tree::Code::Ior;
+use rtx_tree::Code::Le;
+use rtx_tree::Code::Leu;
+use rtx_tree::Code::Lshiftrt;
+use rtx_tree::Code::Lt;
+use rtx_tree::Code::Ltu;
+use rtx_tree::Code::MatchDup;
+use rtx_tree::Code::MatchOperand;
+use rtx_tree::Code::MatchOperator;
+use rtx_tree::Code::Minus;
+use rtx_tree::Code::Mod;
+use rtx_tree::Code::Mult;
+use rtx_tree::Code::Ne;
+use rtx_tree::Code::Neg;
+use rtx_tree::Code::Not;
+use rtx_tree::Code::Plus;
+use rtx_tree::Code::Return;
+use rtx_tree::Code::SignExtend;
+use rtx_tree::Code::Truncate;
+use rtx_tree::Code::Udiv;
+use rtx_tree::Code::Umod;
+use rtx_tree::Code::Xor;
+use rtx_tree::Code::ZeroExtend;
+use rtx_tree::Mode::DI;
+use rtx_tree::Mode::HI;
+use rtx_tree::Mode::QI;
+use rtx_tree::Mode::SI;
+use rtx_tree::Mode::Void;
 
 /// A mask of 16 or 32 ones, which is split into two shifts.
 const MASKS: Row = Row {

@@ -1,5 +1,6 @@
 //! Whether a tree is what a shape has at a place.
 ghost use Rattle.std.specs.Prelude.{◌≡◌};
+ghost use Rattle.rtx_tree.specs.Code.{same_code};
 ghost use Rattle.plain_shape.specs.Plain as spec;
 
 use crate::shape::{Part, Source};
@@ -61,7 +62,7 @@ fn are_two(a: Part, b: Part, kids: &[Rtx]) -> bool
 }
 
 fn same_code(a: Code, b: Code) -> bool
-    ensures { result ≡ spec.same_code a b }
+    ensures { result ≡ same_code a b }
 {
     a.name() == b.name()
 }

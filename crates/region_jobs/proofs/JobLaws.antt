@@ -11,10 +11,10 @@ use Rattle.region_jobs.specs.declared.taken.Taken.{Taken}
 use Rattle.region_jobs.specs.Jobs.{ask_for, asks_from, jobs_behind, jobs_of}
 use Rattle.region_jobs.specs.Kept.{IsTaken, MakeJobs}
 
-some_is : {A : Type 0} (x y : A) → Some x ≡ Some y → x ≡ y
+pub some_is : {A : Type 0} (x y : A) → Some x ≡ Some y → x ≡ y
 some_is x y e = cc
 
-none_some : {A : Type 0} (x : A) → None ≡ Some x → ⊥
+pub none_some : {A : Type 0} (x : A) → None ≡ Some x → ⊥
 none_some x e = cc
 
 pub all_joined : {A : Type 0} (P : A → Type 0) (xs ys : List A) → AllByRecursion P xs → AllByRecursion P ys → AllByRecursion P (xs ++ ys)

@@ -13,12 +13,7 @@ use Rattle.insn_depends.specs.Depends.{dependence}
 use Rattle.region_jobs.specs.declared.taken.Taken.{Taken}
 use Rattle.region_jobs.specs.Jobs.{ask_for, asks_from, job_of, jobs_behind, jobs_of}
 use Rattle.region_jobs.specs.Kept.{Waits, KeepDependences}
-
-none_some : {A : Type 0} (x : A) → None ≡ Some x → ⊥
-none_some x e = cc
-
-some_is : {A : Type 0} (x y : A) → Some x ≡ Some y → x ≡ y
-some_is x y e = cc
+use Rattle.region_jobs.proofs.JobLaws.{some_is, none_some}
 
 -- ---- an ask that is there
 

@@ -7,9 +7,7 @@ use Rattle.std.proofs.lemmas.Bool.Decides.{nat_tests}
 use Rattle.std.proofs.lemmas.Fmt.{parse-decimal, decimal_is_IsNumeral}
 use Rattle.std.proofs.lemmas.Slice.Eq.{bytes_eq-Decides}
 use Rattle.rtlc_words.specs.Words.{number_in}
-
-same_text : (xs ys : List ℕ) → bytes_eq xs ys ≡ true → xs ≡ ys
-same_text xs ys h = grind (arith, bytes_eq-Decides xs ys, h)
+use Rattle.rtlc_words.proofs.Texts.{same_text}
 
 text_same : (xs ys : List ℕ) → xs ≡ ys → bytes_eq xs ys ≡ true
 text_same xs ys h = grind (arith, bytes_eq-Decides xs ys, h)

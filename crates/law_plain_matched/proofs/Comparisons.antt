@@ -44,7 +44,7 @@ pub record IsCompared (to : Mode) (c : Code) : Type 0 where
   pub class : IsOperation (class_of_code c)
   pub has : Has plain_forms (insn name (sets to (plain.compared to c)) constraints template)
 
-compared_si : (c : Code) → is_comparison_code c ≡ true → IsCompared SI c
+pub compared_si : (c : Code) → is_comparison_code c ≡ true → IsCompared SI c
 compared_si code.Lt is = record { name = _; constraints = _; template = _; role = refl; class = (refl, refl); has = among_comparisons 0 (plain.less SI code.Lt) refl }
 compared_si code.Ltu is = record { name = _; constraints = _; template = _; role = refl; class = (refl, refl); has = among_comparisons 1 (plain.less SI code.Ltu) refl }
 compared_si code.Gt is = record { name = _; constraints = _; template = _; role = refl; class = (refl, refl); has = among_comparisons 4 (plain.more SI code.Gt) refl }
@@ -57,7 +57,7 @@ compared_si code.Eq is = record { name = _; constraints = _; template = _; role 
 compared_si code.Ne is = record { name = _; constraints = _; template = _; role = refl; class = (refl, refl); has = among_comparisons 21 (plain.equals SI code.Ne) refl }
 compared_si _ is = absurd (let no : ⊥ = cc in no)
 
-compared_di : (c : Code) → is_comparison_code c ≡ true → IsCompared DI c
+pub compared_di : (c : Code) → is_comparison_code c ≡ true → IsCompared DI c
 compared_di code.Lt is = record { name = _; constraints = _; template = _; role = refl; class = (refl, refl); has = among_comparisons 2 (plain.less DI code.Lt) refl }
 compared_di code.Ltu is = record { name = _; constraints = _; template = _; role = refl; class = (refl, refl); has = among_comparisons 3 (plain.less DI code.Ltu) refl }
 compared_di code.Gt is = record { name = _; constraints = _; template = _; role = refl; class = (refl, refl); has = among_comparisons 6 (plain.more DI code.Gt) refl }

@@ -52,11 +52,21 @@ module _ (x : Rtx) (w : IsWell x) where
 
   moves_in : (m : Mode) → IsMoved m → Each Brings (all.moves_in m)
   moves_in m of_mode = (
-    set _ _ (moves.of_register m of_mode x), (
-    set _ _ (moves.of_constant m of_mode x), (
-    set _ _ (moves.of_memory m of_mode x), (
-    set _ _ (moves.register_stored m of_mode x), (
-    set _ _ (moves.constant_stored m of_mode x), tt)))))
+    set _ _ (moves.of_register m of_mode x),
+    (
+      set _ _ (moves.of_constant m of_mode x),
+      (
+        set _ _ (moves.of_memory m of_mode x),
+        (
+          set _ _ (moves.register_stored m of_mode x),
+          (
+            set _ _ (moves.constant_stored m of_mode x),
+            tt,
+          ),
+        ),
+      ),
+    ),
+  )
 
   abbrev places : List Shape
   places = shape.Set (part.Register DI) (source.Only part.Symbol) ∷ shape.Set (part.Register DI) (source.Only part.Frame) ∷ []
@@ -72,64 +82,162 @@ module _ (x : Rtx) (w : IsWell x) where
 
   binaries : Each Brings all.binaries
   binaries = (
-    set _ _ (operations.plus_si x), (
-    set _ _ (operations.minus_si x), (
-    set _ _ (operations.mult_si x), (
-    set _ _ (operations.div_si x), (
-    set _ _ (operations.udiv_si x), (
-    set _ _ (operations.mod_si x), (
-    set _ _ (operations.umod_si x), (
-    set _ _ (operations.and_si x), (
-    set _ _ (operations.ior_si x), (
-    set _ _ (operations.xor_si x), (
-    set _ _ (operations.ashift_si x), (
-    set _ _ (operations.ashiftrt_si x), (
-    set _ _ (operations.lshiftrt_si x), (
-    set _ _ (operations.plus_di x), (
-    set _ _ (operations.minus_di x), (
-    set _ _ (operations.mult_di x), (
-    set _ _ (operations.div_di x), (
-    set _ _ (operations.udiv_di x), (
-    set _ _ (operations.mod_di x), (
-    set _ _ (operations.umod_di x), (
-    set _ _ (operations.and_di x), (
-    set _ _ (operations.ior_di x), (
-    set _ _ (operations.xor_di x), (
-    set _ _ (operations.ashift_di x), (
-    set _ _ (operations.ashiftrt_di x), (
-    set _ _ (operations.lshiftrt_di x), (
-    tt)))))))))))))))))))))))))))
+    set _ _ (operations.plus_si x),
+    (
+      set _ _ (operations.minus_si x),
+      (
+        set _ _ (operations.mult_si x),
+        (
+          set _ _ (operations.div_si x),
+          (
+            set _ _ (operations.udiv_si x),
+            (
+              set _ _ (operations.mod_si x),
+              (
+                set _ _ (operations.umod_si x),
+                (
+                  set _ _ (operations.and_si x),
+                  (
+                    set _ _ (operations.ior_si x),
+                    (
+                      set _ _ (operations.xor_si x),
+                      (
+                        set _ _ (operations.ashift_si x),
+                        (
+                          set _ _ (operations.ashiftrt_si x),
+                          (
+                            set _ _ (operations.lshiftrt_si x),
+                            (
+                              set _ _ (operations.plus_di x),
+                              (
+                                set _ _ (operations.minus_di x),
+                                (
+                                  set _ _ (operations.mult_di x),
+                                  (
+                                    set _ _ (operations.div_di x),
+                                    (
+                                      set _ _ (operations.udiv_di x),
+                                      (
+                                        set _ _ (operations.mod_di x),
+                                        (
+                                          set _ _ (operations.umod_di x),
+                                          (
+                                            set _ _ (operations.and_di x),
+                                            (
+                                              set _ _ (operations.ior_di x),
+                                              (
+                                                set _ _ (operations.xor_di x),
+                                                (
+                                                  set _ _ (operations.ashift_di x),
+                                                  (
+                                                    set _ _ (operations.ashiftrt_di x),
+                                                    (
+                                                      set _ _ (operations.lshiftrt_di x),
+                                                      (
+                                                          tt),
+                                                    ),
+                                                  ),
+                                                ),
+                                              ),
+                                            ),
+                                          ),
+                                        ),
+                                      ),
+                                    ),
+                                  ),
+                                ),
+                              ),
+                            ),
+                          ),
+                        ),
+                      ),
+                    ),
+                  ),
+                ),
+              ),
+            ),
+          ),
+        ),
+      ),
+    ),
+  )
 
   unaries : Each Brings all.unaries
   unaries = (
-    set _ _ (operations.neg_si x), (
-    set _ _ (operations.not_si x), (
-    set _ _ (operations.neg_di x), (
-    set _ _ (operations.not_di x), (
-    set _ _ (operations.sign_qi_si x), (
-    set _ _ (operations.sign_hi_si x), (
-    set _ _ (operations.sign_qi_di x), (
-    set _ _ (operations.sign_hi_di x), (
-    set _ _ (operations.sign_si_di x), (
-    set _ _ (operations.zero_qi_si x), (
-    set _ _ (operations.zero_hi_si x), (
-    set _ _ (operations.zero_qi_di x), (
-    set _ _ (operations.zero_hi_di x), (
-    set _ _ (operations.zero_si_di x), (
-    set _ _ (operations.cut_si_qi x), (
-    set _ _ (operations.cut_si_hi x), (
-    set _ _ (operations.cut_di_qi x), (
-    set _ _ (operations.cut_di_hi x), (
-    set _ _ (operations.cut_di_si x), (
-    tt))))))))))))))))))))
+    set _ _ (operations.neg_si x),
+    (
+      set _ _ (operations.not_si x),
+      (
+        set _ _ (operations.neg_di x),
+        (
+          set _ _ (operations.not_di x),
+          (
+            set _ _ (operations.sign_qi_si x),
+            (
+              set _ _ (operations.sign_hi_si x),
+              (
+                set _ _ (operations.sign_qi_di x),
+                (
+                  set _ _ (operations.sign_hi_di x),
+                  (
+                    set _ _ (operations.sign_si_di x),
+                    (
+                      set _ _ (operations.zero_qi_si x),
+                      (
+                        set _ _ (operations.zero_hi_si x),
+                        (
+                          set _ _ (operations.zero_qi_di x),
+                          (
+                            set _ _ (operations.zero_hi_di x),
+                            (
+                              set _ _ (operations.zero_si_di x),
+                              (
+                                set _ _ (operations.cut_si_qi x),
+                                (
+                                  set _ _ (operations.cut_si_hi x),
+                                  (
+                                    set _ _ (operations.cut_di_qi x),
+                                    (
+                                      set _ _ (operations.cut_di_hi x),
+                                      (
+                                        set _ _ (operations.cut_di_si x),
+                                        (
+                                            tt),
+                                      ),
+                                    ),
+                                  ),
+                                ),
+                              ),
+                            ),
+                          ),
+                        ),
+                      ),
+                    ),
+                  ),
+                ),
+              ),
+            ),
+          ),
+        ),
+      ),
+    ),
+  )
 
   compared : Each Brings all.comparisons
   compared = (
-    set _ _ (comparisons.si_si x), (
-    set _ _ (comparisons.si_di x), (
-    set _ _ (comparisons.di_si x), (
-    set _ _ (comparisons.di_di x), (
-    tt)))))
+    set _ _ (comparisons.si_si x),
+    (
+      set _ _ (comparisons.si_di x),
+      (
+        set _ _ (comparisons.di_si x),
+        (
+          set _ _ (comparisons.di_di x),
+          (
+              tt),
+        ),
+      ),
+    ),
+  )
 
   jumped : Each Brings all.jumps
   jumped = (jumps.branch_narrow x w, (jumps.branch_wide x w, (jumps.jump x w, (jumps.return x w, tt))))

@@ -95,8 +95,8 @@ holds = record {
   leaf = λ p h t a ts x placed items l. leaf p h t x placed l;
   parallel = λ p h t a v kids placed of_class items vector all. together kids (elements _ kids all);
   node = λ p h t a ts ps kids placed items parts all. (
-    let plain = node_named h.code h.mode (a ∷ ts) ps (parts_positions (class_of h) (a ∷ ts) ps parts).0 in
-    sound (record { code = h.code; mode = h.mode; number = pos 0; name = [] }) kids (record { fits = refl; named = plain.0; moded = plain.1 }) (each ps ts kids all));
+      let plain = node_named h.code h.mode (a ∷ ts) ps (parts_positions (class_of h) (a ∷ ts) ps parts).0 in
+      sound (record { code = h.code; mode = h.mode; number = pos 0; name = [] }) kids (record { fits = refl; named = plain.0; moded = plain.1 }) (each ps ts kids all));
 }
 
 -- an expression that a tree stands for

@@ -221,8 +221,10 @@ module _ (test a other uid : Rtx) (next : ℕ) (compares : is_comparison test �
 
   none_addressed : addressed all next ≡ prepared [] all [] next
   none_addressed =
-      all_addressed all next ((λ n. comparison_addressed (out-Rtx (of other)).code (kids_of (of other)) (comparison (of other)) n (here_class other)),
-      (of_register (input DI a) left_is_register, (of_constant (input DI other) is_const, (of_constant (fixed uid) uid_constant, tt))))
+      all_addressed all next (
+        (λ n. comparison_addressed (out-Rtx (of other)).code (kids_of (of other)) (comparison (of other)) n (here_class other)),
+        (of_register (input DI a) left_is_register, (of_constant (input DI other) is_const, (of_constant (fixed uid) uid_constant, tt))),
+      )
 
   abbrev third : StandardOperand
   third = input DI other

@@ -77,7 +77,7 @@ pub constant_set : (m : Mode) (next : ℕ) (x : Rtx) → moves.IsMoved m → IsC
 constant_set m next x moved k =
     let place = new_accepted m next in
     let constant : operands.const_int_operand m x ≡ true =
-          ap (operands.const_int_operand m) k.is ∙ and_from (is_constant (const_of k.value)) (operands.is_extended m (out-Rtx (const_of k.value)).number) (const_constant k.value) (ap (λ o. operands.is_extended m o.number) (out-roll-Rtx _) ∙ k.within) in
+    ap (operands.const_int_operand m) k.is ∙ and_from (is_constant (const_of k.value)) (operands.is_extended m (out-Rtx (const_of k.value)).number) (const_constant k.value) (ap (λ o. operands.is_extended m o.number) (out-roll-Rtx _) ∙ k.within) in
     moves.moved m moved (new m next) x (moves.register_set m (new m next) place) (moves.constant_moved m x constant)
     (moves.first_true (register_operand m (new m next)) (holds plain_forms (codes "reg_or_0_operand") x m) place)
 

@@ -191,7 +191,7 @@ module _ (m : Mode) (moved : moves.IsMoved m) (k : ℕ) (first : IsNamed (codes 
       never : takes (codes "reg_or_0_operand") c m ≡ true → ⊥
       never is =
           let found : IsMatched plain_forms insn_is =
-                moves.moved m moved place c (moves.memory_set m place memory) (moves.constant_moved m c constant_taken) (moves.second_true (register_operand m place) (takes (codes "reg_or_0_operand") c m) is) in
+          moves.moved m moved place c (moves.memory_set m place memory) (moves.constant_moved m c constant_taken) (moves.second_true (register_operand m place) (takes (codes "reg_or_0_operand") c m) is) in
           unmatched found.form found.operands found.matches
 
       go : (b : Bool) → takes (codes "reg_or_0_operand") c m ≡ b → takes (codes "reg_or_0_operand") c m ≡ false

@@ -1,5 +1,5 @@
 -- A verdict asks of the live registers only which they are.
-use Rattle.std.proofs.Common.{◌≡◌, ℕ, ◌==◌, Bool, true, false, not, ◌&&◌, ◌||◌, nat_le, if◌then◌else◌, List, [], ◌∷◌, Option, Some, None, is_some, refl, ap, ◌∙◌}
+use Rattle.std.proofs.Common.{◌≡◌, ℕ, Bool, not, ◌&&◌, ◌||◌, nat_le, if◌then◌else◌, List, [], ◌∷◌, Option, Some, None, is_some, refl, ap, ◌∙◌}
 use Rattle.rtx_tree.specs.Registers.{virtual_stack_vars}
 use Rattle.rtx_tree.specs.RegSet.{has_reg}
 use Rattle.rtx_tree.specs.declared.function.Insn.{Insn}
@@ -9,7 +9,7 @@ use Rattle.sym_state.specs.State as state
 use Rattle.sym_state.specs.Registers.{held}
 use Rattle.sym_insns.specs.Run as insns
 use Rattle.sym_diff.specs.Difference.{Difference, or_else}
-use Rattle.sym_diff.specs.Registers.{is_passed_over, is_free, agrees, value_behind, register_difference, compared_register, compared_all, compared_registers, one_calls, changed_in}
+use Rattle.sym_diff.specs.Registers.{is_passed_over, is_free, agrees, value_behind, register_difference, compared_register, compared_all, one_calls, changed_in}
 use Rattle.sym_diff.specs.Compared.{compared_stores, compared_jump, compared_calls, compared_needs}
 use Rattle.sym_diff.specs.States.{difference}
 use Rattle.equate.specs.Side.{Side, run_side, is_lines, both_return}
@@ -24,7 +24,7 @@ module _ (live other : List ℕ) (alike : AreAlike live other) where
   one_register : (calls : Bool) (a b : Option (Option Tree)) (reg : ℕ) → compared_register calls live a b reg ≡ compared_register calls other a b reg
   one_register calls a b reg =
       ap (λ (l : Bool). if not (is_passed_over calls reg) && ((nat_le reg virtual_stack_vars && (not (is_some a) && (is_some b && not (is_free reg && not l)))) || (l && not (agrees (value_behind a reg) (value_behind b reg))))
-        then Some (register_difference a b reg) else None) (alike reg)
+      then Some (register_difference a b reg) else None) (alike reg)
 
   all_registers : (calls : Bool) (a b : List Changed) (regs : List ℕ) → compared_all calls live a b regs ≡ compared_all calls other a b regs
   all_registers calls a b [] = refl
@@ -35,7 +35,7 @@ module _ (live other : List ℕ) (alike : AreAlike live other) where
   states : (of_lines : Bool) (a b : State) → difference of_lines live a b ≡ difference of_lines other a b
   states of_lines a b =
       ap (λ (d : Option Difference). or_else d (or_else (compared_stores 0 a.stores b.stores) (or_else (compared_jump a.jump b.jump) (or_else (compared_calls of_lines a.call b.call) (compared_needs a.needs b.needs)))))
-        (all_registers (one_calls a b) a.regs b.regs (changed_in b.regs (changed_in a.regs [])))
+      (all_registers (one_calls a b) a.regs b.regs (changed_in b.regs (changed_in a.regs [])))
 
   runs : (of_lines : Bool) (a b : Ran) → judged of_lines live a b ≡ judged of_lines other a b
   runs of_lines (state.BadShape index) b = refl

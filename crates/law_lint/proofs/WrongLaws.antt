@@ -24,13 +24,13 @@ use Rattle.asm_out.specs.Filled.{template_at, template_in, text_by, text_of}
 use Rattle.asm_out.specs.Outcome.{Outcome}
 use Rattle.asm_out.specs.Comes.{IsTried, PlaceComes}
 use Rattle.asm_out.proofs.LineLaws.{lines_one}
-use Rattle.lint_judge.specs.Judged.{AreAllLive, Tells, IsCompared}
+use Rattle.lint_judge.specs.Judged.{Tells, IsCompared}
 use Rattle.lint_judge.specs.declared.judged.Fault.{Fault}
 use Rattle.lint_judge.specs.declared.judged.Fault.TheVariants as fault
 use Rattle.lint_judge.specs.declared.judged.Judged.{Judged}
 use Rattle.lint_tried.specs.declared.instance.Instance.{Instance}
 use Rattle.lint_told.specs.Told.{IsPrinted}
-use Rattle.law_lint.specs.Refused.{HasAllLive, HasNoText, WrongIsRefused}
+use Rattle.law_lint.specs.Refused.{HasAllLive, WrongIsRefused}
 use Rattle.law_lint.proofs.LiveLaws.{one_verdict}
 
 -- a fault is told by no verdict that is the same
@@ -93,17 +93,17 @@ module _ (forms : List Entry) (form alternative : ℕ) (instance : Instance) (fo
     same_lines d lines live tried =
         let one : d ≡ c = chosen_one forms output_facts i.pattern d c tried.chosen printed.reached.chosen in
         lines_one found.texts lines compared.lines
-          (subst (λ (ts : List (List ℕ)). AreReadAs ts lines) (sym (texts ∙ ap (λ (d : Chosen). lines_of (text_of forms 0 i d)) (sym one))) tried.read)
-          compared.read
+        (subst (λ (ts : List (List ℕ)). AreReadAs ts lines) (sym (texts ∙ ap (λ (d : Chosen). lines_of (text_of forms 0 i d)) (sym one))) tried.read)
+        compared.read
 
     not_equated : (d : Chosen) (lines : List Line) (live : List ℕ) → IsTried forms 0 g place i d lines live → Equated (i ∷ []) (Lines 0 lines) live → ⊥
     not_equated d lines live tried is =
         let ours : verdict (i ∷ []) (Lines 0 lines) live ≡ verdict (i ∷ []) (Lines 0 compared.lines) compared.live =
-            ap (λ (ls : List Line). verdict (i ∷ []) (Lines 0 ls) live) (same_lines d lines live tried)
-            ∙ one_verdict live compared.live (λ reg. all live tried.live_after reg ∙ sym (compared.all_live reg)) (i ∷ []) (Lines 0 compared.lines) in
+        ap (λ (ls : List Line). verdict (i ∷ []) (Lines 0 ls) live) (same_lines d lines live tried)
+        ∙ one_verdict live compared.live (λ reg. all live tried.live_after reg ∙ sym (compared.all_live reg)) (i ∷ []) (Lines 0 compared.lines) in
         no_fault found.texts compared.lines f
-          (subst (λ (v : Verdict). Tells found.texts compared.lines (Some f) v) (sym ours ∙ is)
-          (subst (λ (o : Option Fault). Tells found.texts compared.lines o (verdict (i ∷ []) (Lines 0 compared.lines) compared.live)) wrong compared.tells))
+        (subst (λ (v : Verdict). Tells found.texts compared.lines (Some f) v) (sym ours ∙ is)
+        (subst (λ (o : Option Fault). Tells found.texts compared.lines o (verdict (i ∷ []) (Lines 0 compared.lines) compared.live)) wrong compared.tells))
 
     no_text : needs_form i ≡ true → (o : Outcome) (piece : Piece) → o ≡ Ok piece → PlaceComes forms 0 g place i o → ⊥
     no_text needs _ piece is (PlaceComes.label label small) = no_label i.kind (is_note (head_of i.pattern).code) label needs
@@ -114,5 +114,5 @@ module _ (forms : List Entry) (form alternative : ℕ) (instance : Instance) (fo
 
 -- it comes to no text
 pub wrong_is_refused : WrongIsRefused
-wrong_is_refused forms form alternative instance found f printed wrong needs g place all piece comes =
-    no_text forms form alternative instance found f printed wrong g place all needs (Ok piece) piece refl comes
+wrong_is_refused forms form alternative instance found wrong needs g place all piece comes =
+    no_text forms form alternative instance found wrong.fault wrong.printed wrong.has g place all needs (Ok piece) piece refl comes

@@ -65,24 +65,24 @@ use Rattle.law_plain_planned.proofs.Emitted.{pattern_at, emits_one}
 
 -- ---- codes
 
-class_is : (k : Class) → is_comparison_class k ≡ true → k ≡ class.Comparison
+pub class_is : (k : Class) → is_comparison_class k ≡ true → k ≡ class.Comparison
 class_is class.Comparison is = refl
 class_is _ is = absurd (let no : ⊥ = cc in no)
 
-comparison_addressed : (c : Code) (kids : List Rtx) (operand : StandardOperand) (next : ℕ) → class_of_code c ≡ class.Comparison → addressed_by c kids operand next ≡ unchanged operand next
+pub comparison_addressed : (c : Code) (kids : List Rtx) (operand : StandardOperand) (next : ℕ) → class_of_code c ≡ class.Comparison → addressed_by c kids operand next ≡ unchanged operand next
 comparison_addressed code.Mem kids operand next is = absurd (let no : ⊥ = cc in no)
 comparison_addressed _ kids operand next is = refl
 
-constant_class : (c : Code) → is_constant_code c ≡ true → is_constant_class (class_of_code c) ≡ true
+pub constant_class : (c : Code) → is_constant_code c ≡ true → is_constant_class (class_of_code c) ≡ true
 constant_class code.ConstInt is = refl
 constant_class _ is = absurd (let no : ⊥ = cc in no)
 
-register_class : (c : Code) (x : Rtx) (kids : List Rtx) → is_register_by c x kids ≡ true → is_constant_class (class_of_code c) ≡ false
+pub register_class : (c : Code) (x : Rtx) (kids : List Rtx) → is_register_by c x kids ≡ true → is_constant_class (class_of_code c) ≡ false
 register_class code.Reg x kids is = refl
 register_class code.Subreg x kids is = refl
 register_class _ x kids is = absurd (let no : ⊥ = cc in no)
 
-abbrev pc : Rtx
+abbrev pub pc : Rtx
 pc = leaf_of code.Pc Void (pos 0)
 
 module _ (test a other uid : Rtx) (next : ℕ) (compares : is_comparison test ≡ true) (is_left : register_operand DI a ≡ true) (nonzero : IsNonzero DI other) (uid_constant : is_constant uid ≡ true) where

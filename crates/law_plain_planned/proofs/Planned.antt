@@ -1,5 +1,6 @@
--- A constant that is stored, and one by which an operation on registers computes, is set into a new register before.
-use Rattle.std.proofs.Common.{◌≡◌, ◌<◌, ◌^◌, ℕ, pos, Bool, true, List, [], ◌∷◌, codes, refl, ap, subst}
+-- A constant that is stored, that is compared for a branch, or by which an operation on registers computes, is set
+-- into a new register before.
+use Rattle.std.proofs.Common.{◌≡◌, ◌<◌, ◌^◌, ℕ, pos, Bool, true, List, [], ◌∷◌, codes, refl, sym, ap, subst, ◌∙◌}
 use Rattle.std.specs.Int.{cast_unsigned, w64}
 use Rattle.rtx_tree.specs.Code.{class_of_code}
 use Rattle.rtx_tree.specs.declared.class.Class.TheVariants as class
@@ -9,7 +10,8 @@ use Rattle.rtx_tree.specs.declared.code.Mode.{Mode}
 use Rattle.rtx_tree.specs.declared.code.Mode.TheVariants.{Void, QI, HI, SI, DI}
 use Rattle.rtx_tree.specs.declared.tree.Rtx.{Rtx, out-roll-Rtx}
 use Rattle.rtx_tree.specs.Patterns.{set_rtx}
-use Rattle.rtx_tree.specs.Tree.{node_of, kids_of}
+use Rattle.rtx_tree.specs.Tree.{RtxHead, leaf_of, node_of, tree_of, head_of, kids_of}
+use Rattle.rtx_tree.proofs.Trees.{head_of-tree, kids_of-tree}
 use Rattle.rtl_func.specs.Calls.{has_argument, is_hard_argument}
 use Rattle.rtl_func.specs.Modes.{register_by}
 use Rattle.lower_insn.specs.Lowered.{IsUnmatched}
@@ -17,17 +19,18 @@ use Rattle.plain_forms.specs.Forms.{plain_forms}
 use Rattle.law_plain_leaves.specs.Machine.{Throughout, ArePrintable, is_printable}
 use Rattle.law_plain_leaves.proofs.Shaped.{Each, parts, itself}
 use Rattle.law_plain_leaves.proofs.Apart.{number_fits}
-use Rattle.law_plain_matched.specs.Matched.{IsNonzero, Memory, is_some_mode, takes_registers}
-use Rattle.law_plain_planned.specs.Planned.{new, IsPlanned, PlainExpands}
+use Rattle.law_plain_matched.specs.Matched.{IsNonzero, Memory, is_some_mode, takes_registers, choice, of_operands}
+use Rattle.law_plain_planned.specs.Planned.{new, branch_on, IsPlanned, PlainExpands}
 use Rattle.law_plain_planned.proofs.Steps.{HasPlan, expands}
-use Rattle.law_plain_planned.proofs.Registers.{Lawful, lawful_tree, new_lawful}
+use Rattle.law_plain_planned.proofs.Registers.{Lawful, stands_by, lawful_tree, new_lawful}
 use Rattle.law_plain_planned.proofs.Named as named
 use Rattle.law_plain_planned.proofs.Stores.{store_planned}
 use Rattle.law_plain_planned.proofs.Computed.{computed}
+use Rattle.law_plain_planned.proofs.Branches.{branch_planned}
 
 -- ---- trees whose hard registers are a0 to a7
 
-set_parts : (p : Rtx → Bool) (a b : Rtx) → Throughout p (set_rtx a b) → Throughout p a × Throughout p b
+pub set_parts : (p : Rtx → Bool) (a b : Rtx) → Throughout p (set_rtx a b) → Throughout p a × Throughout p b
 set_parts p a b all =
     let kids : kids_of (set_rtx a b) ≡ a ∷ b ∷ [] = ap (λ o. o.kids) (out-roll-Rtx _) in
     let each = subst (Each p) kids (parts p (set_rtx a b) all) in
@@ -39,7 +42,7 @@ node_parts p c m a b all =
     let each = subst (Each p) kids (parts p (node_of c m (a ∷ b ∷ [])) all) in
     (each.0, each.1.0)
 
-set_lawful : (a b : Rtx) → Lawful a → Lawful b → Lawful (set_rtx a b)
+pub set_lawful : (a b : Rtx) → Lawful a → Lawful b → Lawful (set_rtx a b)
 set_lawful a b one other = lawful_tree (record { code = code.Set; mode = Void; number = pos 0; name = [] }) (a ∷ b ∷ []) refl (one, (other, tt))
 
 binary_class : (c : Code) → takes_registers c ≡ true → class_of_code c ≡ class.Binary
@@ -54,6 +57,33 @@ binary_class _ is = absurd (let no : ⊥ = cc in no)
 node_lawful : (c : Code) (m : Mode) (a b : Rtx) → takes_registers c ≡ true → Lawful a → Lawful b → Lawful (node_of c m (a ∷ b ∷ []))
 node_lawful c m a b takes one other =
     lawful_tree (record { code = c; mode = m; number = pos 0; name = [] }) (a ∷ b ∷ []) (ap (λ r. is_hard_argument (register_by r (cast_unsigned w64 (pos 0)))) (binary_class c takes)) (one, (other, tt))
+
+-- another second operand of a comparison
+pub compared_lawful : (h : RtxHead) (a b c : Rtx) → Throughout has_argument (tree_of h (a ∷ b ∷ [])) → Lawful c → Lawful (tree_of h (a ∷ c ∷ []))
+compared_lawful h a b c all other =
+    let whole = tree_of h (a ∷ b ∷ []) in
+    let each = subst (Each has_argument) (kids_of-tree h (a ∷ b ∷ [])) (parts has_argument whole all) in
+    let stands : stands_by h.code h.number ≡ true = sym (ap (λ (g : RtxHead). stands_by g.code g.number) (head_of-tree h (a ∷ b ∷ []))) ∙ itself has_argument whole all in
+    lawful_tree h (a ∷ c ∷ []) stands (each.0, (other, tt))
+
+-- another test of a branch
+abbrev pc : Rtx
+pc = leaf_of code.Pc Void (pos 0)
+
+abbrev label_of : Rtx → Rtx
+label_of uid = node_of code.LabelRef Void (uid ∷ [])
+
+pub choice_parts : (test uid : Rtx) → Throughout has_argument (choice test uid) → Each has_argument (test ∷ label_of uid ∷ pc ∷ [])
+choice_parts test uid all =
+    let kids : kids_of (choice test uid) ≡ test ∷ label_of uid ∷ pc ∷ [] = ap (λ o. o.kids) (out-roll-Rtx _) in
+    subst (Each has_argument) kids (parts has_argument (choice test uid) all)
+
+pub branch_lawful : (test other uid : Rtx) → Throughout has_argument (branch_on test uid) → (Throughout has_argument test → Lawful other) → Lawful (branch_on other uid)
+branch_lawful test other uid all lawful =
+    let two = set_parts has_argument pc (choice test uid) all in
+    let each = choice_parts test uid two.1 in
+    set_lawful pc (choice other uid) two.0
+    (lawful_tree (record { code = code.IfThenElse; mode = Void; number = pos 0; name = [] }) (other ∷ label_of uid ∷ pc ∷ []) refl (lawful each.0, (each.1.0, (each.1.1.0, tt))))
 
 -- ---- stores, by their modes
 
@@ -79,6 +109,10 @@ plan_of next _ _ small (IsPlanned.computed c m target a k takes word place left 
     let print = (set_parts is_printable target (node_of c m (a ∷ k ∷ [])) printable).0 in
     computed target a k next (number_fits target (itself is_printable target print)) c m takes word place left constant
     (set_lawful target (node_of c m (a ∷ new m next ∷ [])) two.0 (node_lawful c m a (new m next) takes inner.0 fresh))
+plan_of next _ _ small (IsPlanned.branched test a k uid uid_constant compares left nonzero) printable lawful unmatched =
+    let fresh = new_lawful DI next small in
+    branch_planned test a k uid next compares left nonzero uid_constant
+    (branch_lawful (of_operands test a k) (of_operands test a (new DI next)) uid lawful (λ all. compared_lawful (head_of test) a k (new DI next) all fresh)) unmatched
 
 pub plain_expands : PlainExpands
 plain_expands i greatest next sequence answer planned small printable lawful lowers =

@@ -67,6 +67,22 @@ module _ (uids : Uids) where
   both_emitted whole x y form operands before next last answer is first second lowers =
       two_emitted x y before last answer first second (inverse (Emit false whole form operands ∷ []) before next answer lowers (emission (x ∷ y ∷ []) last) is)
 
+  -- a form that emits three
+  pub three_emitted : (whole x y z : Rtx) (form : ℕ) (operands : Ops) (before next last : ℕ) (answer : Answer) → emission_of plain_forms form operands next ≡ Some (emission (x ∷ y ∷ z ∷ []) last) →
+      IsMatched plain_forms x → IsMatched plain_forms y → IsMatched plain_forms z → Lowers plain_forms uids (Emit false whole form operands ∷ []) before next answer → answer ≡ Ok (x ∷ y ∷ z ∷ [])
+  three_emitted whole x y z form operands before next last answer is first second third lowers =
+      let emitted = inverse (Emit false whole form operands ∷ []) before next answer lowers (emission (x ∷ y ∷ z ∷ []) last) is in
+      let a = inverse (Emitted x ∷ Emitted y ∷ Emitted z ∷ []) before last answer emitted first in
+      a.2 ∙ ap (behind x) (two_emitted y z (before + 1) last a.0 second third a.1)
+
+  -- what stands before, and a form that emits three
+  pub three_behind : (whole w x y z : Rtx) (form : ℕ) (operands : Ops) (before next last : ℕ) (answer : Answer) → emission_of plain_forms form operands next ≡ Some (emission (x ∷ y ∷ z ∷ []) last) →
+      IsMatched plain_forms w → IsMatched plain_forms x → IsMatched plain_forms y → IsMatched plain_forms z → Lowers plain_forms uids (Lower true w ∷ Emit false whole form operands ∷ []) before next answer →
+      answer ≡ Ok (w ∷ x ∷ y ∷ z ∷ [])
+  three_behind whole w x y z form operands before next last answer is zeroth first second third lowers =
+      let a = inverse (Lower true w ∷ Emit false whole form operands ∷ []) before next answer lowers zeroth in
+      a.2 ∙ ap (behind w) (three_emitted whole x y z form operands (before + 1) next last a.0 is first second third a.1)
+
   -- what stands before, and a form that emits the other
   pub one_before : (whole x y : Rtx) (form : ℕ) (operands : Ops) (before next : ℕ) (answer : Answer) → emission_of plain_forms form operands next ≡ Some (emission (y ∷ []) next) →
       IsMatched plain_forms x → IsMatched plain_forms y → Lowers plain_forms uids (Lower true x ∷ Emit false whole form operands ∷ []) before next answer → answer ≡ Ok (x ∷ y ∷ [])

@@ -1,0 +1,4 @@
+pub mod About
+pub mod Within
+pub mod Parts
+pub mod Own

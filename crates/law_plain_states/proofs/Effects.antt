@@ -1,5 +1,6 @@
 -- What an instruction does that sets a register: its pattern is written out.
 use Rattle.std.proofs.Common.{◌≡◌, ℕ, suc, pos, [], ◌∷◌, ◌++◌, Some, ◌∙◌, ap}
+use Rattle.std.specs.Prelude.{ℤ}
 use Rattle.bits64.specs.declared.Width.{Width}
 use Rattle.bits64.specs.declared.Width.TheVariants.{W64}
 use Rattle.sym_state.specs.State.{Access}
@@ -42,17 +43,17 @@ sets_register m n x w wide =
     (ap (λ o. set_register (register_by o.code o.number o.kids) (made_of [] [] (rtx x) w) ∷ []) (outside_is place) ∙
     ap (λ v. set_register (Some (suc n)) v ∷ []) (made_is x w))))))
 
--- (mem:MODE ADDRESS)
-abbrev pub memory_at : Mode → Written → Written
-memory_at m address = node Mem m (pos 0) [] (with address none)
+-- (mem:MODE ADDRESS), whose number no one looks at
+abbrev pub memory_at : Mode → ℤ → Written → Written
+memory_at m z address = node Mem m z [] (with address none)
 
 -- memory is set
-pub stores_memory : (m : Mode) (address x : Written) (w : Width) → width_of m ≡ Some w →
-    effects_of [] [] (rtx (set_of (memory_at m address) x)) ≡
+pub stores_memory : (m : Mode) (z : ℤ) (address x : Written) (w : Width) → width_of m ≡ Some w →
+    effects_of [] [] (rtx (set_of (memory_at m z address) x)) ≡
     record { effect = effects.Stores (made address W64).term (made x w).term; needs = (made x w).needs ++ ((made address W64).needs ++ Access (made address W64).term w ∷ []) } ∷ []
-stores_memory m address x w wide =
-    let whole = set_of (memory_at m address) x in
-    let place = memory_at m address in
+stores_memory m z address x w wide =
+    let whole = set_of (memory_at m z address) x in
+    let place = memory_at m z address in
     ap (λ o. effects_by o.code (rtx whole) [] []) (outside_is whole) ∙
     (ap (λ o. effect_by o.code o.kids [] [] ∷ []) (outside_is whole) ∙
     (ap (λ o. set_in (width_of o.mode) [] [] (rtx place) (rtx x) ∷ []) (outside_is place) ∙

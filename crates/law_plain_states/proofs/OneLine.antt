@@ -31,11 +31,13 @@ use Rattle.law_plain_states.proofs.Rows.{known, insn_sets, small_state, fits_pla
 abbrev pub AreSmallNeeds : List Need → Type 0
 AreSmallNeeds needs = list_all (λ n. is_small_need n.what) (needs_at 0 needs) ≡ true
 
--- an instruction that sets a register from an expression that is written out
+-- an instruction that sets a register from an expression with the value of one that is written out
 pub record Sets (i : Insn) (m : Mode) (n : ℕ) (x : Written) : Type 0 where
   pub plain : i.kind ≡ Plain
   pub shaped : is_shaped i ≡ true
-  pub pattern : i.pattern ≡ rtx (set_of (register m n) x)
+  pub source : Written
+  pub pattern : i.pattern ≡ rtx (set_of (register m n) source)
+  pub same : (w : Width) → made source w ≡ made x w
 
 -- a line that sets it
 pub record LineSets (number : ℕ) (l : Line) (n : ℕ) (u : Tree) (asked : List Need) : Type 0 where
@@ -60,7 +62,8 @@ pub record Row {P : Type 0} (m : Mode) (w : Width) (x : P → Written) (t u : P 
 module _ {P : Type 0} (m : Mode) (w : Width) (x : P → Written) (t u : P → Tree) (had asked : P → List Need) (row : Row m w x t u had asked) where
   insn_state : (i : Insn) (n : ℕ) (p : P) → Sets i m n (x p) → insns.after 0 i start ≡ sets (suc n) (t p) (needs_at 0 (had p))
   insn_state i n p s =
-      insn_sets i m n (x p) w s.plain s.pattern row.wide ∙ (ap (λ v. sets (suc n) v (needs_at 0 (made (x p) w).needs)) (row.term p) ∙ ap (λ v. sets (suc n) (t p) (needs_at 0 v)) (row.needs p))
+      insn_sets i m n s.source w s.plain s.pattern row.wide ∙ (ap (λ v. sets (suc n) v.term (needs_at 0 v.needs)) (s.same w) ∙
+      (ap (λ v. sets (suc n) v (needs_at 0 (made (x p) w).needs)) (row.term p) ∙ ap (λ v. sets (suc n) (t p) (needs_at 0 v)) (row.needs p)))
 
   -- lines that set the same are equated with the instruction, whatever is live behind it
   pub lines_equated : (number : ℕ) (live : List ℕ) (i : Insn) (ls : List Line) (n : ℕ) (p : P) → Sets i m n (x p) → lines.run number ls ≡ Runs (sets (suc n) (u p) (needs_at 0 (asked p))) →

@@ -1,5 +1,5 @@
 -- The line that a text ends in, one byte more.
-use Rattle.std.proofs.Common.{◌≡◌, ℕ, ◌+◌, ◌-◌, ◌<◌, ◌≤◌, Bool, true, false, not, List, [], ◌∷◌, cond, if◌then◌else◌, length, take, drop, get_or, sym, ap, ◌∙◌, arith}
+use Rattle.std.proofs.Common.{◌≡◌, ℕ, ◌+◌, ◌-◌, ◌<◌, ◌≤◌, Bool, true, false, not, List, [], ◌∷◌, cond, if◌then◌else◌, length, take, drop, get_or, ap, ◌∙◌, arith}
 use Rattle.std.specs.List.{prefix_len, suffix_len, after_last}
 use Rattle.std.proofs.lemmas.List.{take_more, take_all, reverse-append}
 use Rattle.lint_about.specs.About.{is_break}

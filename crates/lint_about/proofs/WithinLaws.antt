@@ -3,12 +3,10 @@ use Rattle.std.proofs.Common.{◌≡◌, ℕ, List, [], ◌∷◌, ◌++◌, Opt
 use Rattle.std.specs.List.{flat_map}
 use Rattle.std.specs.Option.{option_or}
 use Rattle.rtx_tree.specs.declared.constants.Constant.{Constant}
-use Rattle.rtx_tree.specs.declared.place.Place.{Place}
 use Rattle.lisp_read.specs.declared.tree.Tree.{Tree, out-Tree}
 use Rattle.lisp_read.specs.declared.tree.Tree.TheOpen.{Tree-F}
 use Rattle.lisp_read.specs.declared.tree.Tree.TheFolds.{fold-Tree, fold_out-Tree, map-Tree}
 use Rattle.lisp_read.specs.Expression.{inside_at, inside_of}
-use Rattle.lint_about.specs.declared.about.About.{About}
 use Rattle.lint_about.specs.declared.sought.Sought.{Sought}
 use Rattle.lint_about.specs.Within.{each_gone, within_step, within, first_found, placed, place_within, found_at, first_in}
 

@@ -1,6 +1,6 @@
 -- What a reason of a form is about, by the form's own text: where it stands, and what is written
 -- there. GCC Internals, "Machine Descriptions".
-use Rattle.std.specs.Prelude.{ℕ, ◌+◌, ◌-◌, Bool, true, List, ◌++◌, Option, Some, None, if◌then◌else◌, length, option_map, option_and_then, slice_get}
+use Rattle.std.specs.Prelude.{ℕ, ◌+◌, ◌-◌, Bool, true, List, Option, Some, None, if◌then◌else◌, length, option_map, option_and_then, slice_get}
 use Rattle.std.specs.List.{find}
 use Rattle.std.specs.Option.{is_some, is_none, option_or, unwrap_or}
 use Rattle.rtx_tree.specs.declared.constants.Constant.{Constant}

@@ -1,0 +1,3 @@
+pub mod Unnamed
+pub mod NotLive
+pub mod Spared

@@ -1,0 +1,5 @@
+pub mod Frames
+pub mod Within
+pub mod Agreed
+pub mod Before
+pub mod Jumps

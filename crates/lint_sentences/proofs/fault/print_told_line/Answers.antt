@@ -1,0 +1,5 @@
+use Rattle.lint_choices.proofs.PushedLaws.{pushed_three}
+use Rattle.lint_sentences.proofs.fault.print_told_line.Goals as goal
+
+pub returns : goal.returns
+returns c = pushed_three c.args.out.now.items _ _ _ c.print_text.new.out.items c.print_text-2.new.out.items c.print_quoted.new.out.items c.in_ok-print_text.ensures c.in_ok-print_text-2.ensures c.in_ok-print_quoted.ensures

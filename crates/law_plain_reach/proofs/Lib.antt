@@ -1,0 +1,14 @@
+pub mod Tests
+pub mod Each
+pub mod Two
+pub mod Three
+pub mod News
+pub mod Constraints
+pub mod Reached
+pub mod Known
+pub mod Binary
+pub mod Computes
+pub mod Refused
+pub mod Formed
+pub mod Enabled
+pub mod Operations

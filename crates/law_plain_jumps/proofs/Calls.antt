@@ -56,7 +56,7 @@ symbol m z name = node code.SymbolRef m z name none
 
 -- (call (mem:SI ADDRESS) SIZE)
 abbrev pub call_of : Written → Written → Written
-call_of address size = node code.Call Void (pos 0) [] (with (memory_at SI address) (with size none))
+call_of address size = node code.Call Void (pos 0) [] (with (memory_at SI (pos 0) address) (with size none))
 
 -- (set (reg:MODE a0) CALL)
 abbrev pub valued : Mode → Written → Written
@@ -67,7 +67,7 @@ valued m call = set_of (register m 9) call
 made_address : (address size : Written) → made_target [] [] (target_of (rtx (call_of address size))) ≡ made address W64
 made_address address size =
     ap (λ o. made_target [] [] (target_by o.code o.kids)) (outside_is (call_of address size)) ∙
-    (ap (λ o. made_target [] [] (address_part o.code o.kids)) (outside_is (memory_at SI address)) ∙ made_is address W64)
+    (ap (λ o. made_target [] [] (address_part o.code o.kids)) (outside_is (memory_at SI (pos 0) address)) ∙ made_is address W64)
 
 -- an instruction calls an address
 pub record CallsAt (x : Written) (address : Written) (result : Option Mode) : Type 0 where

@@ -21,6 +21,7 @@ use Rattle.sym_state.specs.Registers.{read, read_needs}
 use Rattle.sym_insns.specs.Run as insns
 use Rattle.sym_insns.specs.Effects.{effects_of, make_all}
 use Rattle.sym_insns.specs.Shape.{is_shaped}
+use Rattle.sym_insns.specs.Value.{Made}
 use Rattle.sym_lines.specs.Run as lines
 use Rattle.sym_diff.specs.Compared.{covers, is_covered}
 use Rattle.sym_diff.specs.States.{difference}
@@ -48,6 +49,22 @@ small_store at v needs small_at small_v rest = both ((is_small at && is_small v)
 
 -- ---- the row: where a line stores what the instruction stores, at its address, and needs no more
 
+-- an instruction that stores, at an address and from an expression with the values of those that are
+-- written out
+pub record StoresAt (i : Insn) (m : Mode) (p : With) (x : Written) : Type 0 where
+  pub plain : i.kind ≡ Plain
+  pub shaped : is_shaped i ≡ true
+  pub number : ℤ
+  pub place : Written
+  pub source : Written
+  pub pattern : i.pattern ≡ rtx (set_of (memory_at m number place) source)
+  pub same_place : made place W64 ≡ made (address_of p) W64
+  pub same : (w : Width) → made source w ≡ made x w
+
+-- what is stored where, and what is needed for it
+abbrev put_in : Made → Made → Width → State
+put_in at v w = stores (at.term, v.term) (needs_at 0 (v.needs ++ (at.needs ++ Access at.term w ∷ [])))
+
 module _ (m : Mode) (w : Width) (wide : width_of m ≡ Some w) (source : Written) (p : With) (v : Tree) (had asked : List Need) where
   abbrev all_had : List Need
   all_had = had ++ (Register (suc p.0) W64 ∷ Access (address p) w ∷ [])
@@ -56,15 +73,16 @@ module _ (m : Mode) (w : Width) (wide : width_of m ≡ Some w) (source : Written
   all_asked = asked ++ (is_set p.0 ∷ Access (address p) w ∷ [])
 
   pub store_equated : (made source w).term ≡ v → (made source w).needs ≡ had → IsSmall v → AreSmallNeeds all_had → AreSmallNeeds all_asked → AreCovered (needs_at 0 all_had) (needs_at 0 all_asked) →
-      (number : ℕ) (live : List ℕ) (i : Insn) (l : Line) → i.kind ≡ Plain → is_shaped i ≡ true → i.pattern ≡ rtx (set_of (memory_at m (address_of p)) source) →
+      (number : ℕ) (live : List ℕ) (i : Insn) (l : Line) → StoresAt i m p source →
       lines.fits_action (action_of l) [] ≡ true → lines.after number 0 l start ≡ stores (address p, v) (needs_at 0 all_asked) → Equated (i ∷ []) (Lines number (l ∷ [])) live
-  store_equated term needs small small_had small_asked covered number live i l plain shaped pattern fits state =
-      let here = ap (λ k. insns.after_kind k 0 i start) plain ∙ (ap (λ x. make_all 0 (effects_of [] [] x) start) pattern ∙ (ap (λ es. make_all 0 es start) (stores_memory m (address_of p) source w wide) ∙
-      (ap (λ t. stores (address p, t) (needs_at 0 ((made source w).needs ++ (Register (suc p.0) W64 ∷ Access (address p) w ∷ [])))) term ∙ ap (λ ns. stores (address p, v) (needs_at 0 (ns ++ (Register (suc p.0) W64 ∷ Access (address p) w ∷ [])))) needs))) in
+  store_equated term needs small small_had small_asked covered number live i l s fits state =
+      let here = ap (λ k. insns.after_kind k 0 i start) s.plain ∙ (ap (λ x. make_all 0 (effects_of [] [] x) start) s.pattern ∙ (ap (λ es. make_all 0 es start) (stores_memory m s.number s.place s.source w wide) ∙
+      (ap (λ at. put_in at (made s.source w) w) s.same_place ∙ (ap (λ v. put_in (made (address_of p) W64) v w) (s.same w) ∙
+      (ap (λ t. stores (address p, t) (needs_at 0 ((made source w).needs ++ (Register (suc p.0) W64 ∷ Access (address p) w ∷ [])))) term ∙ ap (λ ns. stores (address p, v) (needs_at 0 (ns ++ (Register (suc p.0) W64 ∷ Access (address p) w ∷ [])))) needs))))) in
       let at = at_address IsSmall p (small_memory.small_address p.0 (word p)) in
-      let comes = insn_runs i (fits_plain i plain shaped) (ap is_within here ∙ small_store (address p) v (needs_at 0 all_had) at small small_had) in
+      let comes = insn_runs i (fits_plain i s.plain s.shaped) (ap is_within here ∙ small_store (address p) v (needs_at 0 all_had) at small small_had) in
       let runs = line_runs number l fits (ap is_within state ∙ small_store (address p) v (needs_at 0 all_asked) at small small_asked) ∙ ap Runs state in
-      equated i number (l ∷ []) live (insns.after 0 i start) (stores (address p, v) (needs_at 0 all_asked)) (stays_plain i plain) comes runs
+      equated i number (l ∷ []) live (insns.after 0 i start) (stores (address p, v) (needs_at 0 all_asked)) (stays_plain i s.plain) comes runs
       (subst (λ a. difference true live a (stores (address p, v) (needs_at 0 all_asked)) ≡ None) (sym here) (store_agrees live (address p, v) (needs_at 0 all_had) (needs_at 0 all_asked) covered))
 
 -- ---- the line
@@ -98,12 +116,11 @@ module _ (m : Mode) (w : Width) (wide : width_of m ≡ Some w) (term : (b : ℕ)
       (both (is_covered had (is_set p.0)) _ (or_right _ _ (or_left _ _ (has_bits (suc p.0) W64)))
       (both (is_covered had (Access (address p) w)) true (or_left (covers (Access (address p) w) (Access (address p) w)) false (access_has (address p) w)) refl))
 
-  pub register_equated : i.kind ≡ Plain → is_shaped i ≡ true → i.pattern ≡ rtx (set_of (memory_at m (address_of p)) (register m b)) →
-      action_of l ≡ Some (Store w) → l.rs ≡ suc p.0 → l.imm ≡ p.1 → l.rt ≡ suc b → Equated (i ∷ []) (Lines number (l ∷ [])) live
-  register_equated plain shaped pattern does rs imm rt =
+  pub register_equated : StoresAt i m p (register m b) → action_of l ≡ Some (Store w) → l.rs ≡ suc p.0 → l.imm ≡ p.1 → l.rt ≡ suc b → Equated (i ∷ []) (Lines number (l ∷ [])) live
+  register_equated s does rs imm rt =
       store_equated m w wide (register m b) p (part w b) (Register (suc b) w ∷ []) (is_set b ∷ []) (term b) (needs b) (small b)
       (small_access (suc p.0) W64 w (address p) at_small) (small_access (suc p.0) W8 w (address p) at_small) covered
-      number live i l plain shaped pattern (ap (λ o. lines.fits_action o []) does)
+      number live i l s (ap (λ o. lines.fits_action o []) does)
       (line_stores w number l p (suc b) does rs imm rt ∙ ap (λ at. stored w p.0 (part w b) (is_set b ∷ []) at) (same_address p.0 (word p)))
 
 -- ---- 0 is stored
@@ -119,10 +136,9 @@ module _ (m : Mode) (w : Width) (wide : width_of m ≡ Some w) (term : (made (nu
       both (is_covered had (is_set p.0)) _ (or_left _ _ (has_bits (suc p.0) W64))
       (both (is_covered had (Access (address p) w)) true (or_left (covers (Access (address p) w) (Access (address p) w)) false (access_has (address p) w)) refl)
 
-  pub zero_equated : i.kind ≡ Plain → is_shaped i ≡ true → i.pattern ≡ rtx (set_of (memory_at m (address_of p)) (number (pos 0))) →
-      action_of l ≡ Some (Store w) → l.rs ≡ suc p.0 → l.imm ≡ p.1 → l.rt ≡ 0 → Equated (i ∷ []) (Lines number_of (l ∷ [])) live
-  zero_equated plain shaped pattern does rs imm rt =
+  pub zero_equated : StoresAt i m p (number (pos 0)) → action_of l ≡ Some (Store w) → l.rs ≡ suc p.0 → l.imm ≡ p.1 → l.rt ≡ 0 → Equated (i ∷ []) (Lines number_of (l ∷ [])) live
+  zero_equated s does rs imm rt =
       store_equated m w wide (number (pos 0)) p (constant w 0) [] [] term needs small
       (small_access (suc p.0) W64 w (address p) zero_small) (small_access (suc p.0) W8 w (address p) zero_small) zero_covered
-      number_of live i l plain shaped pattern (ap (λ o. lines.fits_action o []) does)
+      number_of live i l s (ap (λ o. lines.fits_action o []) does)
       (line_stores w number_of l p 0 does rs imm rt ∙ (ap (λ v. stored w p.0 v [] (line_address p.0 (word p))) low ∙ ap (λ at. stored w p.0 (constant w 0) [] at) (same_address p.0 (word p))))

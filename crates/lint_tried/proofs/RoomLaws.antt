@@ -3,7 +3,8 @@ use Rattle.std.proofs.Common.{◌≡◌, ◌<◌, ◌≤◌, ◌&&◌, not, Bool
 use Rattle.std.specs.List.{list_any}
 use Rattle.std.proofs.lemmas.Bool.{lt-ltb, le-ltb}
 use Rattle.lint_tried.specs.declared.instance.Instance.{Instance}
-use Rattle.lint_tried.specs.Tried.{most_tried, is_like, with_instance}
+use Rattle.rtx_tree.specs.Limit.{most_tried}
+use Rattle.lint_tried.specs.Tried.{is_like, with_instance}
 
 abbrev put_if : Bool → Bool → List Instance → Instance → List Instance
 put_if room like tried i = if room && not like then tried ++ i ∷ [] else tried

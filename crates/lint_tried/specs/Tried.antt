@@ -10,6 +10,7 @@ use Rattle.md_desc.specs.md_forms.declared.form.Entry.{Entry}
 use Rattle.md_desc.specs.md_attr.Alternatives.{form_at}
 use Rattle.md_desc.specs.md_recog.Recog.{is_instruction, is_split}
 use Rattle.rtx_tree.specs.declared.tree.Rtx.{Rtx}
+use Rattle.rtx_tree.specs.Limit.{most_tried}
 use Rattle.lint_choices.specs.declared.change.Change.{Change}
 use Rattle.lint_choices.specs.declared.change.Picked.{Picked}
 use Rattle.lint_choices.specs.Changes.{changes_round, changes_searched}
@@ -19,10 +20,6 @@ use Rattle.lint_tried.specs.Trial.{Trial}
 use Rattle.lint_tried.specs.Offered.{candidates_of}
 use Rattle.lint_tried.specs.Instance.{instance_of}
 use Rattle.lint_tried.specs.declared.instance.Instance.{Instance}
-
--- as many are kept for an alternative at most
-abbrev pub most_tried : ℕ
-most_tried = 64
 
 -- ---- the first
 

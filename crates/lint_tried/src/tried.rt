@@ -2,6 +2,7 @@
 ghost use Rattle.std.specs.Prelude.{◌≡◌, ◌<◌, [], Some, IfOk, OnOk, length, slice_index_or};
 ghost use Rattle.std.specs.Option.{option_copied};
 ghost use Rattle.std.specs.List.{list_any};
+ghost use Rattle.rtx_tree.specs.Limit.{most_tried};
 ghost use Rattle.md_desc.specs.md_attr.Alternatives.{accepted, form_at};
 ghost use Rattle.lint_made.specs.Made.{givers as givers_of};
 ghost use Rattle.lint_tried.specs.Instance.{instance_of};
@@ -18,11 +19,8 @@ use lint_made::{givers, picks_in};
 use md_desc::Description;
 use md_forms::{Entry, Form, FormHead};
 use plain_data::{Items, Memory};
-use rtx_tree::Rtx;
+use rtx_tree::{MOST_TRIED, Rtx};
 use std::alloc::Global;
-
-/// As many instances are kept for an alternative.
-const MOST_TRIED: usize = 64;
 
 /// The first of some candidates.
 fn first_pick(own: &Candidates) -> usize
@@ -86,7 +84,7 @@ fn is_among(instance: &Instance, tried: &[Instance]) -> bool
 /// Appends an instance, unless one before it has its pattern.
 #[tactic(auto, using(crate::proofs::RoomLaws::like_left, crate::proofs::RoomLaws::unlike_put))]
 fn push_unlike(instance: Instance, tried: &mut Items<Instance>) -> Result<(), Memory>
-    requires { length tried.old < spec.most_tried }
+    requires { length tried.old < most_tried }
     ensures { OnOk result (tried.new ≡ spec.with_instance tried.old (Some instance)) }
 {
     if is_among(&instance, tried.as_slice()) {

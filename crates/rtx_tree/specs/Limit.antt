@@ -94,6 +94,10 @@ most_reused = 64
 abbrev pub most_scheduled : ℕ
 most_scheduled = 64
 
+-- the instances of an alternative that are tried
+abbrev pub most_tried : ℕ
+most_tried = 64
+
 -- ---- what a description of pipelines may say; what says more is passed over
 
 -- the units that are told apart

@@ -54,6 +54,9 @@ pub const MOST_REUSED: u32 = 64;
 /// So many instructions are put in order together at most; no refusal names it.
 pub const MOST_SCHEDULED: u32 = 64;
 
+/// So many instances of an alternative are tried at most; no refusal names it.
+pub const MOST_TRIED: usize = 64;
+
 /// So many units of a pipeline are told apart at most; a reservation that names more is passed over.
 pub const MOST_UNITS: usize = 64;
 

@@ -5,7 +5,7 @@ use Rattle.std.specs.Prelude.{ℕ, ℤ, pos, List, Bool, true, false, Option, So
 use Rattle.rtx_tree.specs.declared.code.Code.{Code}
 use Rattle.rtx_tree.specs.declared.code.Mode.{Mode}
 use Rattle.rtx_tree.specs.declared.constants.Constant.{Constant}
-use Rattle.md_operand.specs.Operand.{own_named}
+use Rattle.md_operand.specs.Operand.{built_in_named}
 use Rattle.name_places.specs.Names.{constant_named}
 use Rattle.c_words.specs.declared.head.Call.{Call}
 use Rattle.c_words.specs.declared.head.Call.TheVariants as call
@@ -52,7 +52,7 @@ predicate_or_nothing _ _ _ = atom.Nothing
 
 -- a predicate that is there without a definition, where predicates may be called
 abbrev pub is_own_predicate : Dialect → List ℕ → Bool
-is_own_predicate dialect.Condition word = is_some (own_named word)
+is_own_predicate dialect.Condition word = is_some (built_in_named word)
 is_own_predicate dialect.Test word = false
 
 abbrev pub atom_of_name : Dialect → List ℕ → Option ℤ → Atom

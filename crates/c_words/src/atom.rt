@@ -6,7 +6,7 @@ ghost use Rattle.c_words.specs.Atoms as spec;
 use crate::head::{Call, CondHead};
 use crate::keyword::Keyword;
 use crate::word::{code_in_capitals, is_target, mode_named, target_holds};
-use md_operand::Own;
+use md_operand::BuiltIn;
 use name_places::{Constants, constant_named};
 use plain_data::Memory;
 use rtx_tree::{Code, Mode};
@@ -99,7 +99,7 @@ fn is_own_predicate(dialect: Dialect, word: &[u8]) -> bool
     ensures { result ≡ spec.is_own_predicate dialect word.now }
 {
     match dialect {
-        Dialect::Condition => Own::named(word).is_some(),
+        Dialect::Condition => BuiltIn::named(word).is_some(),
         Dialect::Test => false,
     }
 }

@@ -2,7 +2,7 @@
 use crate::parts::expression_in;
 use case_text::Told;
 use lisp_read::{Tree, atom, rtx_of_tree};
-use md_operand::{Own, frame_reference, is_memory, is_register, is_symbol, legitimate_address};
+use md_operand::{BuiltIn, frame_reference, is_memory, is_register, is_symbol, legitimate_address};
 use rtx_tree::Mode;
 use rv_regs::{Class, in_class};
 use std::alloc::Global;
@@ -13,7 +13,7 @@ fn show_answer(is: bool, told: &mut Told) {
 }
 
 /// Appends whether a predicate accepts each of some trees in a mode.
-fn show_accepted(alloc: Global, own: Own, mode: Mode, operands: &[Tree], told: &mut Told) {
+fn show_accepted(alloc: Global, own: BuiltIn, mode: Mode, operands: &[Tree], told: &mut Told) {
     for tree in operands {
         match rtx_of_tree(alloc, tree) {
             Ok(x) => show_answer(own.accepts(mode, &x), told),
@@ -23,7 +23,7 @@ fn show_accepted(alloc: Global, own: Own, mode: Mode, operands: &[Tree], told: &
 }
 
 fn show_own(alloc: Global, name: &[u8], mode: &[u8], operands: &[Tree], told: &mut Told) {
-    match Own::named(if name == b"-".as_slice() { b"" } else { name }) {
+    match BuiltIn::named(if name == b"-".as_slice() { b"" } else { name }) {
         Some(own) => {
             let mode = Mode::named(mode).unwrap_or(Mode::Void);
             show_accepted(alloc, own, mode, operands, told);

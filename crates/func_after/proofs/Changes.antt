@@ -24,13 +24,13 @@ use Rattle.reload.specs.Reload.{FunctionReloads}
 use Rattle.reload.specs.declared.refusal.ReloadRefusal.{ReloadRefusal}
 use Rattle.frame.specs.Framed.{FrameComes}
 use Rattle.func_after.specs.declared.change.Change.{Change}
-use Rattle.func_after.specs.declared.made.Made.{Made}
+use Rattle.func_after.specs.declared.compilation.Compilation.{Compilation}
 use Rattle.func_after.specs.After.{Answer, Changed, plainly, combined_behind, told_for, told_reloaded, count_of, IsShort, ChangeComes, PassMakes, PassComes}
 
-pub ok_is : (m n : Made) → ◌≡◌ {A = Answer} (Ok m) (Ok n) → m ≡ n
+pub ok_is : (m n : Compilation) → ◌≡◌ {A = Answer} (Ok m) (Ok n) → m ≡ n
 ok_is m n is = cc
 
-pub apart : {P : Type 0} (m : Made) (e : Refusal) → ◌≡◌ {A = Answer} (Err e) (Ok m) → P
+pub apart : {P : Type 0} (m : Compilation) (e : Refusal) → ◌≡◌ {A = Answer} (Err e) (Ok m) → P
 apart m e is = absurd (let none : ⊥ = cc in none)
 
 -- ---- passes that change the function alone
@@ -79,11 +79,11 @@ module _ (forms : List Entry) (f : Function) (c : Change) where
       (cycles, subst (λ (d : Change). Scheduled forms (pipeline_in forms) f cycles d.function) same comes)
 
 -- what a pass that gave something made
-module _ (forms : List Entry) (m next : Made) (pass : Pass) where
+module _ (forms : List Entry) (m next : Compilation) (pass : Pass) where
   pub makes_of : (a : Answer) → a ≡ Ok next → PassComes forms m pass a → PassMakes forms m pass (Ok next)
   makes_of _ is (PassComes.refused e makes) = apart next e is
   makes_of _ is (PassComes.long n makes many) = apart next (refusal.Limit Instructions (count_of n)) is
-  makes_of _ is (PassComes.made n makes short) = subst (λ (n : Made). PassMakes forms m pass (Ok n)) (ok_is n next is) makes
+  makes_of _ is (PassComes.made n makes short) = subst (λ (n : Compilation). PassMakes forms m pass (Ok n)) (ok_is n next is) makes
 
   -- is not too long
   pub short_of : (a : Answer) → a ≡ Ok next → PassComes forms m pass a → IsShort next
@@ -91,7 +91,7 @@ module _ (forms : List Entry) (m next : Made) (pass : Pass) where
   short_of _ is (PassComes.long n makes many) = apart next (refusal.Limit Instructions (count_of n)) is
   short_of _ is (PassComes.made n makes short) = subst IsShort (ok_is n next is) short
 
-module _ (forms : List Entry) (m next : Made) where
+module _ (forms : List Entry) (m next : Compilation) where
   abbrev pub Made_by : Pass → ℕ → Type 0
   Made_by pass combined = ChangeComes forms m.function pass (Ok (record { function = next.function; combined = combined }))
 
@@ -106,8 +106,8 @@ module _ (forms : List Entry) (m next : Made) where
   changed_by pass (Ok c) is comes = let same = ok_is next (record { function = c.function; combined = combined_behind pass m.combined c.combined; layout = m.layout }) is in record {
     combined = c.combined;
     comes = subst (λ (g : Function). ChangeComes forms m.function pass (Ok (record { function = g; combined = c.combined })))
-        (sym (ap (λ (n : Made). n.function) same)) comes;
-    layout_is = ap (λ (n : Made). n.layout) same;
+        (sym (ap (λ (n : Compilation). n.function) same)) comes;
+    layout_is = ap (λ (n : Compilation). n.layout) same;
   }
   changed_by pass (Err e) is comes = absurd (let none : ⊥ = cc in none)
 
@@ -131,7 +131,7 @@ module _ (forms : List Entry) (m next : Made) where
   pub reload_told : (name : List ℕ) (before : ℕ) (layout : Layout) (r : Result Function ReloadRefusal) →
       ◌≡◌ {A = Answer} (Ok next) (told_reloaded name before layout r) → (r ≡ Ok next.function) × (next.layout ≡ layout)
   reload_told name before layout (Ok g) is = let same = ok_is next (record { function = g; combined = before; layout = layout }) is in
-      (ap (λ (n : Made). Ok n.function) (sym same), ap (λ (n : Made). n.layout) same)
+      (ap (λ (n : Compilation). Ok n.function) (sym same), ap (λ (n : Compilation). n.layout) same)
   reload_told name before layout (Err e) is = absurd (let none : ⊥ = cc in none)
 
   reloaded_by : (a : Answer) → a ≡ Ok next → PassMakes forms m Reload a → Reloaded
@@ -156,8 +156,8 @@ module _ (forms : List Entry) (m next : Made) where
   pub frame_told : (r : Result Function PassRefusal) → ◌≡◌ {A = Answer} (Ok next) (told_for m.function.name m.combined m.layout Frame (plainly r)) →
       FrameComes forms m.function m.layout r → HasFrame
   frame_told (Ok g) is comes = let same = ok_is next (record { function = g; combined = m.combined; layout = m.layout }) is in record {
-    comes = subst (λ (g : Function). FrameComes forms m.function m.layout (Ok g)) (sym (ap (λ (n : Made). n.function) same)) comes;
-    layout_is = ap (λ (n : Made). n.layout) same;
+    comes = subst (λ (g : Function). FrameComes forms m.function m.layout (Ok g)) (sym (ap (λ (n : Compilation). n.function) same)) comes;
+    layout_is = ap (λ (n : Compilation). n.layout) same;
   }
   frame_told (Err e) is comes = absurd (let none : ⊥ = cc in none)
 

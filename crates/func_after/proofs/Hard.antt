@@ -14,14 +14,14 @@ use Rattle.schedule.proofs.KeptLaws as schedule
 use Rattle.law_peepholes.specs.law_lines_ready.law_no_pseudos.Hard.{IsHardInsn, IsHardFunction}
 use Rattle.law_peepholes.proofs.law_lines_ready.law_no_pseudos.Split.{split_again_hard}
 use Rattle.law_peepholes.proofs.Hard.{peepholes_hard}
-use Rattle.func_after.specs.declared.made.Made.{Made}
+use Rattle.func_after.specs.declared.compilation.Compilation.{Compilation}
 use Rattle.func_after.specs.declared.change.Change.{Change}
 use Rattle.func_after.specs.After.{PassesCome}
 use Rattle.func_after.specs.Leads.{IsDescribed}
 use Rattle.func_after.proofs.Changes.{again_by, cover_by, schedule_by, changes_of}
 use Rattle.func_after.proofs.Passing.{PassHolds, all_hold}
 
-abbrev KeptHard : Made → Made → Type 0
+abbrev KeptHard : Compilation → Compilation → Type 0
 KeptHard m n = IsHardFunction m.function → IsHardFunction n.function
 
 module _ (forms : List Entry) (described : IsDescribed forms) where
@@ -51,5 +51,5 @@ module _ (forms : List Entry) (described : IsDescribed forms) where
   each_hard Reusing = (again_hard, (cover_hard, tt))
   each_hard Scheduled = (again_hard, (cover_hard, (schedule_hard, tt)))
 
-  pub behind_hard : (road : Road) (m n : Made) → PassesCome forms (behind_frame road) m (Ok n) → IsHardFunction m.function → IsHardFunction n.function
+  pub behind_hard : (road : Road) (m n : Compilation) → PassesCome forms (behind_frame road) m (Ok n) → IsHardFunction m.function → IsHardFunction n.function
   behind_hard road m n comes = all_hold forms KeptHard (λ m hard. hard) (λ l m n first second hard. second (first hard)) (behind_frame road) m n (Ok n) refl (each_hard road) comes

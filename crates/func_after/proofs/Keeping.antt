@@ -49,7 +49,7 @@ use Rattle.law_peepholes.proofs.law_lines_ready.Split.{split_placed}
 use Rattle.law_peepholes.proofs.law_lines_ready.Written.{placed_writable}
 use Rattle.law_peepholes.proofs.law_lines_ready.Given.{placed_natural, placed_marks, placed_registers}
 use Rattle.law_passes.proofs.Made.{size_holds, made_same}
-use Rattle.func_after.specs.declared.made.Made.{Made}
+use Rattle.func_after.specs.declared.compilation.Compilation.{Compilation}
 use Rattle.func_after.specs.declared.change.Change.{Change}
 use Rattle.func_after.specs.After.{as_read, ChangeComes, AfterComes}
 use Rattle.func_after.specs.Leads.{IsDescribed, LeadsToLines}
@@ -68,13 +68,13 @@ small_by forms f g layout _ is (FrameComes.framed h small framed matched) = smal
 
 -- ---- the passes before registers have homes
 
-abbrev KeptSound : Made → Made → Type 0
+abbrev KeptSound : Compilation → Compilation → Type 0
 KeptSound m n = IsSound m.function → PassKeeps m.function n.function
 
-sound_same : (m : Made) → KeptSound m m
+sound_same : (m : Compilation) → KeptSound m m
 sound_same m sound = kept_refl m.function sound
 
-sound_joined : (l m n : Made) → KeptSound l m → KeptSound m n → KeptSound l n
+sound_joined : (l m n : Compilation) → KeptSound l m → KeptSound m n → KeptSound l n
 sound_joined l m n first second sound =
     let one = first sound in kept_trans l.function m.function n.function one (second one.sound)
 
@@ -111,18 +111,18 @@ module _ (forms : List Entry) where
 
 -- ---- those behind the frame
 
-record KeepsPlaced (m n : Made) : Type 0 where
+record KeepsPlaced (m n : Compilation) : Type 0 where
   pub keeps : Keeps m.function n.function
   pub placed : ArePlaced n.function
   pub layout_is : n.layout ≡ m.layout
 
-abbrev KeptPlaced : Made → Made → Type 0
+abbrev KeptPlaced : Compilation → Compilation → Type 0
 KeptPlaced m n = ArePlaced m.function → KeepsPlaced m n
 
-placed_same : (m : Made) → KeptPlaced m m
+placed_same : (m : Compilation) → KeptPlaced m m
 placed_same m placed = record { keeps = keeps_refl m.function; placed = placed; layout_is = refl }
 
-placed_joined : (l m n : Made) → KeptPlaced l m → KeptPlaced m n → KeptPlaced l n
+placed_joined : (l m n : Compilation) → KeptPlaced l m → KeptPlaced m n → KeptPlaced l n
 placed_joined l m n first second placed =
     let one = first placed in
     let two = second one.placed in record {
@@ -169,7 +169,7 @@ module _ (forms : List Entry) where
 
 -- ---- all
 
-module _ (forms : List Entry) (road : Road) (f : Function) (m : Made) (sound : IsSound f) (s : Stages forms road f m) where
+module _ (forms : List Entry) (road : Road) (f : Function) (m : Compilation) (sound : IsSound f) (s : Stages forms road f m) where
   abbrev plain : Function
   plain = s.plain.function
 
@@ -234,5 +234,5 @@ module _ (forms : List Entry) (road : Road) (f : Function) (m : Made) (sound : I
   }
 
 -- what comes to output leads to lines with the behaviour of the function
-pub after_leads : (forms : List Entry) (road : Road) (f : Function) (m : Made) → IsDescribed forms → IsSound f → AfterComes forms road f (Ok m) → LeadsToLines f m
+pub after_leads : (forms : List Entry) (road : Road) (f : Function) (m : Compilation) → IsDescribed forms → IsSound f → AfterComes forms road f (Ok m) → LeadsToLines f m
 after_leads forms road f m described sound comes = leads_by forms road f m sound (stages_of forms road f m comes) described

@@ -21,7 +21,7 @@ use Rattle.reload.specs.Reload.{FunctionReloads}
 use Rattle.reload.proofs.Marks.{reload_marks}
 use Rattle.frame.proofs.Kept.{frame_marks}
 use Rattle.func_after.specs.declared.change.Change.{Change}
-use Rattle.func_after.specs.declared.made.Made.{Made}
+use Rattle.func_after.specs.declared.compilation.Compilation.{Compilation}
 use Rattle.func_after.specs.After.{Answer, Changed, as_read, ChangeComes, PassMakes, AfterComes}
 use Rattle.func_after.proofs.Changes.{plain_is, makes_of, changed_by, reload_told, frame_told}
 use Rattle.func_after.proofs.Passing.{PassHolds, all_hold, every}
@@ -50,7 +50,7 @@ module _ (forms : List Entry) where
       ∙ schedule.kept forms (pipeline_in forms) (λ (h : Function). h.name ≡ f.name) (λ h place plan planned put so_far. so_far) f g cycles comes refl
   change_name f _ c _ is ChangeComes.writes = let same : record { function = f; combined = 0 } ≡ c = cc in sym (ap (λ (d : Change). d.function.name) same)
 
-  pass_name : (m n : Made) (pass : Pass) (a : Answer) → a ≡ Ok n → PassMakes forms m pass a → n.function.name ≡ m.function.name
+  pass_name : (m n : Compilation) (pass : Pass) (a : Answer) → a ≡ Ok n → PassMakes forms m pass a → n.function.name ≡ m.function.name
   pass_name m n _ a is (PassMakes.changes pass c _ comes told) =
       let changes = changed_by forms m n pass c (sym is ∙ told) comes in
       change_name m.function pass (record { function = n.function; combined = changes.combined })
@@ -62,11 +62,11 @@ module _ (forms : List Entry) where
   pass_name m n _ a is (PassMakes.frames r _ comes told) =
       (frame_marks forms m.function n.function m.layout (frame_told forms m n r (sym is ∙ told) comes).comes).name_is
 
-abbrev Named : Made → Made → Type 0
+abbrev Named : Compilation → Compilation → Type 0
 Named m n = n.function.name ≡ m.function.name
 
 -- a function keeps its name
-pub after_name : (forms : List Entry) (road : Road) (f : Function) (m : Made) → AfterComes forms road f (Ok m) → m.function.name ≡ f.name
+pub after_name : (forms : List Entry) (road : Road) (f : Function) (m : Compilation) → AfterComes forms road f (Ok m) → m.function.name ≡ f.name
 after_name forms road f m comes =
     all_hold forms Named (λ m. refl) (λ l m n first second. second ∙ first) (passes_of road) (as_read f) m (Ok m) refl
     (every (PassHolds forms Named) (λ pass m n comes. pass_name forms m n pass (Ok n) refl (makes_of forms m n pass (Ok n) refl comes)) (passes_of road)) comes

@@ -21,7 +21,7 @@ use Rattle.assign.proofs.OneLaws.{only}
 use Rattle.reload.specs.Reload.{FunctionReloads}
 use Rattle.reload.proofs.One.{reload_one}
 use Rattle.frame.proofs.One.{frame_one}
-use Rattle.func_after.specs.declared.made.Made.{Made}
+use Rattle.func_after.specs.declared.compilation.Compilation.{Compilation}
 use Rattle.func_after.specs.After.{Answer, Changed, plainly, told_for, told_reloaded, as_read, up_to, count_of, ChangeComes, PassMakes, PassComes, PassesCome, IsBehind, AfterComes}
 use Rattle.func_after.proofs.Changes.{ok_is, apart, no_reload, no_frame}
 
@@ -46,7 +46,7 @@ module _ (forms : List Entry) where
       ap (λ (g : Function). plainly (Ok g)) (scheduled_one forms (pipeline_in forms) f g h a b does does').1
   change_one f _ _ _ ChangeComes.writes ChangeComes.writes = refl
 
-  makes_one : (m : Made) (pass : Pass) (a b : Answer) → PassMakes forms m pass a → PassMakes forms m pass b → a ≡ b
+  makes_one : (m : Compilation) (pass : Pass) (a b : Answer) → PassMakes forms m pass a → PassMakes forms m pass b → a ≡ b
   makes_one m _ _ _ (PassMakes.changes pass c a comes is) (PassMakes.changes _ d b comes' is') =
       is ∙ ap (told_for m.function.name m.combined m.layout pass) (change_one m.function pass c d comes comes') ∙ sym is'
   makes_one m _ _ _ (PassMakes.changes _ c a comes is) (PassMakes.reloads homes s b are does is') = no_reload forms m.function c comes
@@ -65,13 +65,13 @@ module _ (forms : List Entry) where
       is ∙ ap (λ r. told_for m.function.name m.combined m.layout Frame (plainly r)) (frame_one forms m.function m.layout r s does does') ∙ sym is'
 
   -- what it makes is refused for what it refuses, or for its length, or is given
-  pass_one : (m : Made) (pass : Pass) (a b : Answer) → PassComes forms m pass a → PassComes forms m pass b → a ≡ b
+  pass_one : (m : Compilation) (pass : Pass) (a b : Answer) → PassComes forms m pass a → PassComes forms m pass b → a ≡ b
   pass_one m pass _ _ (PassComes.refused e makes) (PassComes.refused d makes') = makes_one m pass (Err e) (Err d) makes makes'
   pass_one m pass _ _ (PassComes.refused e makes) (PassComes.long n makes' many) = apart n e (makes_one m pass (Err e) (Ok n) makes makes')
   pass_one m pass _ _ (PassComes.refused e makes) (PassComes.made n makes' short) = apart n e (makes_one m pass (Err e) (Ok n) makes makes')
   pass_one m pass _ _ (PassComes.long n makes many) (PassComes.refused e makes') = apart n e (makes_one m pass (Err e) (Ok n) makes' makes)
   pass_one m pass _ _ (PassComes.long n makes many) (PassComes.long o makes' many') =
-      ap (λ (n : Made). Err (refusal.Limit Instructions (count_of n))) (ok_is n o (makes_one m pass (Ok n) (Ok o) makes makes'))
+      ap (λ (n : Compilation). Err (refusal.Limit Instructions (count_of n))) (ok_is n o (makes_one m pass (Ok n) (Ok o) makes makes'))
   pass_one m pass _ _ (PassComes.long n makes many) (PassComes.made o makes' short) =
       let same : n ≡ o = ok_is n o (makes_one m pass (Ok n) (Ok o) makes makes') in
       absurd (omega (arith, ap count_of same, many, short))
@@ -81,7 +81,7 @@ module _ (forms : List Entry) where
       absurd (omega (arith, ap count_of same, short, many))
   pass_one m pass _ _ (PassComes.made n makes short) (PassComes.made o makes' short') = makes_one m pass (Ok n) (Ok o) makes makes'
 
-  passes_one : (passes : List Pass) (m : Made) (a b : Answer) → PassesCome forms passes m a → PassesCome forms passes m b → a ≡ b
+  passes_one : (passes : List Pass) (m : Compilation) (a b : Answer) → PassesCome forms passes m a → PassesCome forms passes m b → a ≡ b
   passes_one _ _ _ _ (PassesCome.done m) (PassesCome.done _) = refl
   passes_one _ _ _ _ (PassesCome.refused pass others m e comes) (PassesCome.refused _ _ _ d comes') = pass_one m pass (Err e) (Err d) comes comes'
   passes_one _ _ _ _ (PassesCome.refused pass others m e comes) (PassesCome.goes_on _ _ _ next b comes' rest) =
@@ -90,7 +90,7 @@ module _ (forms : List Entry) where
       apart next e (pass_one m pass (Err e) (Ok next) comes' comes)
   passes_one _ _ _ _ (PassesCome.goes_on pass others m next a comes rest) (PassesCome.goes_on _ _ _ next' b comes' rest') =
       let same : next ≡ next' = ok_is next next' (pass_one m pass (Ok next) (Ok next') comes comes') in
-      passes_one others next' a b (subst (λ (n : Made). PassesCome forms others n a) same rest) rest'
+      passes_one others next' a b (subst (λ (n : Compilation). PassesCome forms others n a) same rest) rest'
 
 -- what a function is behind a pass
 pub one_behind : (forms : List Entry) (road : Road) (f : Function) (pass : Pass) (a b : Answer) → IsBehind forms road f pass a → IsBehind forms road f pass b → a ≡ b

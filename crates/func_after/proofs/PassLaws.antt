@@ -18,7 +18,7 @@ use Rattle.reload.specs.declared.refusal.ReloadRefusal.TheVariants as reloading
 use Rattle.frame.specs.Framed.{FrameComes}
 use Rattle.func_input.specs.Input.{RefusesWith}
 use Rattle.func_input.proofs.Refusing.{refuses_map}
-use Rattle.func_after.specs.declared.made.Made.{Made}
+use Rattle.func_after.specs.declared.compilation.Compilation.{Compilation}
 use Rattle.run_refusal.specs.declared.refusal.Refusal.{Refusal}
 use Rattle.run_refusal.specs.declared.refusal.Refusal.TheVariants as refusal
 use Rattle.rtx_tree.specs.declared.limit.Limit.TheVariants.{Instructions}
@@ -40,7 +40,7 @@ told_reloaded name reloading.Memory P Q follows r = tt
 told_reloaded name (reloading.Unmatched uid insn) P Q follows r = follows (reloading.Unmatched uid insn) r
 told_reloaded name (reloading.Unsatisfied uid form insn) P Q follows r = follows (reloading.Unsatisfied uid form insn) r
 
-module _ (forms : List Entry) (m : Made) where
+module _ (forms : List Entry) (m : Compilation) where
   abbrev told : Pass → Changed → Answer
   told pass c = spec.told_for m.function.name m.combined m.layout pass c
 
@@ -102,7 +102,7 @@ module _ (forms : List Entry) (m : Made) where
   pub pass_refused : (pass : Pass) (e : Refusal) → RefusesWith e (PassMakes forms m pass) → RefusesWith e (PassComes forms m pass)
   pass_refused pass e r = refuses_map e (PassMakes forms m pass) (PassComes forms m pass) (λ e makes. PassComes.refused e makes) r
 
-  module _ (pass : Pass) (n : Made) (count : ℕ) (makes : PassMakes forms m pass (Ok n)) (is : count ≡ count_of n) where
+  module _ (pass : Pass) (n : Compilation) (count : ℕ) (makes : PassMakes forms m pass (Ok n)) (is : count ≡ count_of n) where
     -- what it makes too long is refused for its length
     pub pass_long : most_made < count → PassComes forms m pass (Err (refusal.Limit Instructions count))
     pass_long many = subst (λ (c : ℕ). PassComes forms m pass (Err (refusal.Limit Instructions c))) (sym is)

@@ -12,14 +12,14 @@ use Rattle.pass_name.specs.declared.pass.Pass.TheVariants.{Output}
 use Rattle.func_input.specs.Input.{RefusesWith}
 use Rattle.func_input.proofs.Firsts.{drop_at}
 use Rattle.func_input.proofs.Refusing.{refuses_map}
-use Rattle.func_after.specs.declared.made.Made.{Made}
+use Rattle.func_after.specs.declared.compilation.Compilation.{Compilation}
 use Rattle.func_after.specs.After.{Answer, PassComes, PassesCome, as_read, is_pass, up_to, IsBehind, AfterComes, Gives}
 
 -- what the other passes make of what is made now is what all make of what there was first
-pub record Makes (forms : List Entry) (passes : List Pass) (first now : Made) (others : List Pass) : Type 0 where
+pub record Makes (forms : List Entry) (passes : List Pass) (first now : Compilation) (others : List Pass) : Type 0 where
   pub makes : (answer : Answer) → PassesCome forms others now answer → PassesCome forms passes first answer
 
-pub makes_start : (forms : List Entry) (passes : List Pass) (m : Made) → Makes forms passes m m passes
+pub makes_start : (forms : List Entry) (passes : List Pass) (m : Compilation) → Makes forms passes m m passes
 makes_start forms passes m = record { makes = λ answer comes. comes }
 
 -- what stands at a place is there whatever else were given
@@ -45,9 +45,9 @@ module _ (last : Pass) (passes : List Pass) (i : ℕ) (other : Pass) (within : i
   up_to_end : is_pass pass last ≡ true → up_to last (drop i passes) ≡ pass ∷ []
   up_to_end is = up_to_at ∙ ap (λ b. pass ∷ (if b then [] else up_to last (drop (i + 1) passes))) is
 
-  module _ (forms : List Entry) (all : List Pass) (first now : Made) (so_far : Makes forms all first now (up_to last (drop i passes))) where
+  module _ (forms : List Entry) (all : List Pass) (first now : Compilation) (so_far : Makes forms all first now (up_to last (drop i passes))) where
     -- one more pass
-    pub makes_on : (next : Made) → PassComes forms now pass (Ok next) → is_pass pass last ≡ false →
+    pub makes_on : (next : Compilation) → PassComes forms now pass (Ok next) → is_pass pass last ≡ false →
         Makes forms all first next (up_to last (drop (i + 1) passes))
     makes_on next comes isnt = record {
       makes = λ answer more. so_far.makes answer
@@ -56,7 +56,7 @@ module _ (last : Pass) (passes : List Pass) (i : ℕ) (other : Pass) (within : i
     }
 
     -- and the last one
-    pub makes_last : (next : Made) → PassComes forms now pass (Ok next) → is_pass pass last ≡ true → PassesCome forms all first (Ok next)
+    pub makes_last : (next : Compilation) → PassComes forms now pass (Ok next) → is_pass pass last ≡ true → PassesCome forms all first (Ok next)
     makes_last next comes is = so_far.makes (Ok next)
         (subst (λ others. PassesCome forms others now (Ok next)) (sym (up_to_end is))
         (PassesCome.goes_on pass [] now next (Ok next) comes (PassesCome.done next)))
@@ -72,7 +72,7 @@ unfolding up_to
 up_to_none last = refl
 
 -- and all
-pub makes_all : (forms : List Entry) (all : List Pass) (last : Pass) (first now : Made) (others : List Pass) → others ≡ [] →
+pub makes_all : (forms : List Entry) (all : List Pass) (last : Pass) (first now : Compilation) (others : List Pass) → others ≡ [] →
     Makes forms all first now (up_to last others) → PassesCome forms all first (Ok now)
 makes_all forms all last first now others none so_far =
     so_far.makes (Ok now) (subst (λ others. PassesCome forms others now (Ok now)) (sym (ap (up_to last) none ∙ up_to_none last)) (PassesCome.done now))

@@ -11,14 +11,14 @@ use Rattle.assign.specs.declared.home.HomeOf.{HomeOf}
 use Rattle.assign.specs.declared.places.Layout.{Layout}
 use Rattle.reload.specs.Reload.{FunctionReloads}
 use Rattle.frame.specs.Framed.{FrameComes}
-use Rattle.func_after.specs.declared.made.Made.{Made}
+use Rattle.func_after.specs.declared.compilation.Compilation.{Compilation}
 use Rattle.func_after.specs.After.{as_read, PassesCome, AfterComes}
 use Rattle.func_after.proofs.Changes.{reloaded_of, framed_of}
 use Rattle.func_after.proofs.Passing.{next_of, middle_of}
 
 -- what there was before registers have homes, the function with homes, that with its frame, and what is left behind all
-pub record Stages (forms : List Entry) (road : Road) (f : Function) (last : Made) : Type 0 where
-  pub plain : Made
+pub record Stages (forms : List Entry) (road : Road) (f : Function) (last : Compilation) : Type 0 where
+  pub plain : Compilation
   pub homes : List HomeOf
   pub moved : Function
   pub framed : Function
@@ -29,7 +29,7 @@ pub record Stages (forms : List Entry) (road : Road) (f : Function) (last : Made
   pub frames : FrameComes forms moved (layout_of plain.function homes) (Ok framed)
   pub behind : PassesCome forms (behind_frame road) (record { function = framed; combined = combined; layout = layout_of plain.function homes }) (Ok last)
 
-pub stages_of : (forms : List Entry) (road : Road) (f : Function) (last : Made) → AfterComes forms road f (Ok last) → Stages forms road f last
+pub stages_of : (forms : List Entry) (road : Road) (f : Function) (last : Compilation) → AfterComes forms road f (Ok last) → Stages forms road f last
 stages_of forms road f last comes =
     let front = middle_of forms (before_homes road) (Reload ∷ Frame ∷ behind_frame road) (as_read f) last comes in
     let homed = next_of forms Reload (Frame ∷ behind_frame road) front.middle last front.rest in

@@ -36,18 +36,18 @@ use Rattle.reload.specs.declared.refusal.ReloadRefusal.TheVariants as reloading
 use Rattle.frame.specs.Framed.{FrameComes}
 pub use Rattle.func_input.specs.Input.{Gives}
 use Rattle.func_after.specs.declared.change.Change.{Change}
-use Rattle.func_after.specs.declared.made.Made.{Made}
+use Rattle.func_after.specs.declared.compilation.Compilation.{Compilation}
 
 -- ---- what was made so far
 
 -- a function as it was read; nothing is combined and its frame is not laid out yet
-abbrev pub as_read : Function → Made
+abbrev pub as_read : Function → Compilation
 as_read f =
     record { function = f; combined = 0; layout = record { size = 0; slots = []; saved = [] } }
 
 -- what was made, or a refusal
 abbrev pub Answer : Type 0
-Answer = Result Made Refusal
+Answer = Result Compilation Refusal
 
 -- ---- refusals
 
@@ -128,7 +128,7 @@ told_reloaded name before layout (Err e) = Err (unreloaded_for name e)
 
 -- What a pass makes of what was made, by the forms of a description, or what it refuses. Registers
 -- have the homes that are defined for the function as it comes to reload.
-pub data PassMakes (forms : List Entry) (m : Made) : Pass → Answer → Type 0 where
+pub data PassMakes (forms : List Entry) (m : Compilation) : Pass → Answer → Type 0 where
   changes : (pass : Pass) (c : Changed) (answer : Answer) → ChangeComes forms m.function pass c →
       answer ≡ told_for m.function.name m.combined m.layout pass c → PassMakes forms m pass answer
   reloads : (homes : List HomeOf) (r : Result Function ReloadRefusal) (answer : Answer) →
@@ -140,30 +140,30 @@ pub data PassMakes (forms : List Entry) (m : Made) : Pass → Answer → Type 0 
       answer ≡ told_for m.function.name m.combined m.layout Frame (plainly r) → PassMakes forms m Frame answer
 
 -- how many instructions the function has that was made
-abbrev pub count_of : Made → ℕ
+abbrev pub count_of : Compilation → ℕ
 count_of m = instruction_count m.function.insns
 
 -- what was made is no longer than a function may become
-abbrev pub IsShort : Made → Type 0
+abbrev pub IsShort : Compilation → Type 0
 IsShort m = count_of m ≤ most_made
 
 -- What a pass comes to: what it makes, where that is not too long; what it refuses; or the number
 -- of instructions that it would make.
-pub data PassComes (forms : List Entry) (m : Made) (pass : Pass) : Answer → Type 0 where
+pub data PassComes (forms : List Entry) (m : Compilation) (pass : Pass) : Answer → Type 0 where
   refused : (e : Refusal) → PassMakes forms m pass (Err e) → PassComes forms m pass (Err e)
-  long : (n : Made) → PassMakes forms m pass (Ok n) → most_made < count_of n →
+  long : (n : Compilation) → PassMakes forms m pass (Ok n) → most_made < count_of n →
       PassComes forms m pass (Err (refusal.Limit Instructions (count_of n)))
-  made : (n : Made) → PassMakes forms m pass (Ok n) → IsShort n → PassComes forms m pass (Ok n)
+  made : (n : Compilation) → PassMakes forms m pass (Ok n) → IsShort n → PassComes forms m pass (Ok n)
 
 -- ---- one behind the other
 
 -- what some passes make, in their order, or the first refusal
-pub data PassesCome (forms : List Entry) : List Pass → Made → Answer → Type 0 where
-  done : (m : Made) → PassesCome forms [] m (Ok m)
-  refused : (pass : Pass) (others : List Pass) (m : Made) (e : Refusal) →
+pub data PassesCome (forms : List Entry) : List Pass → Compilation → Answer → Type 0 where
+  done : (m : Compilation) → PassesCome forms [] m (Ok m)
+  refused : (pass : Pass) (others : List Pass) (m : Compilation) (e : Refusal) →
       PassComes forms m pass (Err e) →
       PassesCome forms (pass ∷ others) m (Err e)
-  goes_on : (pass : Pass) (others : List Pass) (m next : Made) (answer : Answer) →
+  goes_on : (pass : Pass) (others : List Pass) (m next : Compilation) (answer : Answer) →
       PassComes forms m pass (Ok next) →
       PassesCome forms others next answer → PassesCome forms (pass ∷ others) m answer
 

@@ -11,7 +11,7 @@ use Rattle.md_forms.specs.Forms.{forms_of}
 use Rattle.same_behaviour.specs.Same.{Same}
 use Rattle.law_window_lines.specs.Left.{SameWhereLeft}
 use Rattle.law_peepholes.specs.law_lines_ready.law_output.Ready.{AreWritable}
-use Rattle.func_after.specs.declared.made.Made.{Made}
+use Rattle.func_after.specs.declared.compilation.Compilation.{Compilation}
 
 -- the forms are those of a description
 abbrev pub IsDescribed : List Entry → Type 0
@@ -22,7 +22,7 @@ IsDescribed forms =
 -- Lines can stand for what was made; its frame holds the locals, and is no larger than a frame may
 -- be; and lines that do what it does, where it leaves all as it found it, have the behaviour of the
 -- function.
-pub record LeadsToLines (f : Function) (m : Made) : Type 0 where
+pub record LeadsToLines (f : Function) (m : Compilation) : Type 0 where
   pub writable : AreWritable m.function
   pub holds : f.locals ≤ m.layout.size
   pub small : m.layout.size ≤ most_frame

@@ -7,7 +7,7 @@ ghost use Rattle.func_after.specs.After.{Gives, PassComes, PassMakes};
 use crate::change::{
     Change, combined, covered, lowered, plainly, reused, scheduled, split_again, split_first,
 };
-use crate::made::Made;
+use crate::compilation::Compilation;
 use crate::refusal::{refused_for, unreloaded_for};
 use assign::{Layout, assign, layout};
 use frame::frame;
@@ -48,11 +48,11 @@ fn told(
     layout: Layout,
     pass: Pass,
     change: Result<Change, PassRefusal>,
-) -> Result<Made, Refusal>
+) -> Result<Compilation, Refusal>
     ensures { result ≡ spec.told_for name before layout pass change }
 {
     match change {
-        Ok(change) => Ok(Made {
+        Ok(change) => Ok(Compilation {
             function: change.function,
             combined: combined_behind(pass, before, change.combined),
             layout,
@@ -63,7 +63,12 @@ fn told(
 
 /// The function with homes, by its name, and the layout of its frame.
 #[tactic(auto, using(crate::proofs::PassLaws::reload_gave, crate::proofs::PassLaws::reload_refused, reload_homes::proofs::OrderedLaws::ordered))]
-fn reloaded(alloc: Global, desc: &Description, name: Name, m: Made) -> Result<Made, Refusal>
+fn reloaded(
+    alloc: Global,
+    desc: &Description,
+    name: Name,
+    m: Compilation,
+) -> Result<Compilation, Refusal>
     requires { name ≡ m.function.name }
     ensures { Gives result (PassMakes desc.now m passes.Reload) }
 {
@@ -72,7 +77,7 @@ fn reloaded(alloc: Global, desc: &Description, name: Name, m: Made) -> Result<Ma
     let homes = assign(alloc, &function, live.as_slice())?;
     let layout = layout(alloc, &function, &homes)?;
     match reload(alloc, desc, function, &homes, &layout) {
-        Ok(function) => Ok(Made {
+        Ok(function) => Ok(Compilation {
             function,
             combined: m.combined,
             layout,
@@ -83,11 +88,16 @@ fn reloaded(alloc: Global, desc: &Description, name: Name, m: Made) -> Result<Ma
 
 /// The function with its frame, by its name.
 #[tactic(auto, using(crate::proofs::PassLaws::frame_told))]
-fn framed(alloc: Global, desc: &Description, name: Name, m: Made) -> Result<Made, Refusal>
+fn framed(
+    alloc: Global,
+    desc: &Description,
+    name: Name,
+    m: Compilation,
+) -> Result<Compilation, Refusal>
     requires { name ≡ m.function.name }
     ensures { Gives result (PassMakes desc.now m passes.Frame) }
 {
-    let Made {
+    let Compilation {
         function,
         combined: before,
         layout,
@@ -98,7 +108,12 @@ fn framed(alloc: Global, desc: &Description, name: Name, m: Made) -> Result<Made
 
 /// What a pass makes of what was made, or what it refuses.
 #[tactic(auto, using(crate::proofs::PassLaws::change_told))]
-fn made_by(alloc: Global, desc: &Description, m: Made, pass: Pass) -> Result<Made, Refusal>
+fn made_by(
+    alloc: Global,
+    desc: &Description,
+    m: Compilation,
+    pass: Pass,
+) -> Result<Compilation, Refusal>
     ensures { Gives result (PassMakes desc.now m pass) }
 {
     let name = m.function.name.copy(alloc)?;
@@ -163,9 +178,9 @@ fn made_by(alloc: Global, desc: &Description, m: Made, pass: Pass) -> Result<Mad
 pub(crate) fn passed(
     alloc: Global,
     desc: &Description,
-    m: Made,
+    m: Compilation,
     pass: Pass,
-) -> Result<Made, Refusal>
+) -> Result<Compilation, Refusal>
     ensures { Gives result (PassComes desc.now m pass) }
 {
     let made = made_by(alloc, desc, m, pass)?;

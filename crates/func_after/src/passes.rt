@@ -7,9 +7,9 @@ ghost use Rattle.func_after.specs.After as spec;
 ghost use Rattle.law_passes.specs.law_insn_replaced.Sound.{IsSound};
 ghost use Rattle.func_after.specs.After.{IsBehind, AfterComes, Gives};
 ghost use Rattle.func_after.specs.Leads.{IsDescribed, LeadsToLines};
-ghost use Rattle.func_after.specs.declared.made.Made.{Made};
+ghost use Rattle.func_after.specs.declared.compilation.Compilation.{Compilation};
 
-use crate::made::{Made, as_read};
+use crate::compilation::{Compilation, as_read};
 use crate::pass::passed;
 use md_desc::Description;
 use pass_name::{Pass, Road};
@@ -37,7 +37,7 @@ pub fn behind(
     road: Road,
     f: &Function,
     pass: Pass,
-) -> Result<Made, Refusal>
+) -> Result<Compilation, Refusal>
     ensures { Gives result (IsBehind desc.now road f.now pass) }
 {
     let mut made = as_read(alloc, f)?;
@@ -56,7 +56,12 @@ pub fn behind(
 ///
 /// As [`behind`] says for the last pass.
 #[tactic(auto, using(crate::proofs::PassesLaws::behind_all, crate::proofs::OneAfter::one_after, crate::proofs::Keeping::after_leads, crate::proofs::Short::after_short))]
-pub fn after(alloc: Global, desc: &Description, road: Road, f: &Function) -> Result<Made, Refusal>
+pub fn after(
+    alloc: Global,
+    desc: &Description,
+    road: Road,
+    f: &Function,
+) -> Result<Compilation, Refusal>
     // What is told is given; a refusal is the one that is told.
     ensures gives { Gives result (AfterComes desc.now road f.now) }
 
@@ -66,11 +71,11 @@ pub fn after(alloc: Global, desc: &Description, road: Road, f: &Function) -> Res
 
     // By the forms of a description, lines that do what a sound function then does have the
     // behaviour of the function.
-    ensures leads { (forms : List Entry) (road : Road) (f : Function) (m : Made) →
+    ensures leads { (forms : List Entry) (road : Road) (f : Function) (m : Compilation) →
         IsDescribed forms → IsSound f → AfterComes forms road f (Ok m) → LeadsToLines f m }
 
     // What comes to output has at most 1,000,000 instructions.
-    ensures short { (forms : List Entry) (road : Road) (f : Function) (m : Made) →
+    ensures short { (forms : List Entry) (road : Road) (f : Function) (m : Compilation) →
         AfterComes forms road f (Ok m) → spec.IsShort m }
 {
     behind(alloc, desc, road, f, Pass::Output)

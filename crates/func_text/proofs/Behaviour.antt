@@ -5,7 +5,7 @@ use Rattle.pass_name.specs.declared.road.Road.{Road}
 use Rattle.md_forms.specs.declared.form.Entry.{Entry}
 use Rattle.same_behaviour.specs.Same.{Same}
 use Rattle.func_after.specs.law_insn_replaced.Sound.{IsSound}
-use Rattle.func_after.specs.declared.made.Made.{Made}
+use Rattle.func_after.specs.declared.compilation.Compilation.{Compilation}
 use Rattle.func_after.specs.After.{AfterComes}
 use Rattle.func_after.specs.Leads.{IsDescribed}
 use Rattle.func_after.proofs.Keeping.{after_leads}
@@ -19,7 +19,7 @@ use Rattle.func_text.specs.Same.{AreParts, HasBehaviour, AreSound, AreSame, AreS
 use Rattle.func_text.proofs.Laws.{is_assembly, are_parts}
 
 -- what is written of what the passes make of a function has the function's behaviour
-written_same : (forms : List Entry) (road : Road) (number : ℕ) (f : Function) (m : Made) (piece : Piece) → IsDescribed forms → IsSound f →
+written_same : (forms : List Entry) (road : Road) (number : ℕ) (f : Function) (m : Compilation) (piece : Piece) → IsDescribed forms → IsSound f →
     AfterComes forms road f (Ok m) → IsWritten forms number m.function piece → Same m.layout.size f piece.items
 written_same forms road number f m piece described sound comes written =
     let leads = after_leads forms road f m described sound comes in
@@ -35,7 +35,7 @@ are_framed forms road number _ _ described sound (IsAssembly.function _ f m func
     (are_framed forms road (number + 1) functions rest described (λ index h at. sound (suc index) h at) others)
 
 -- and this frame is one that a function may have
-has_behaviour : (forms : List Entry) (road : Road) (number : ℕ) (f : Function) (m : Made) (piece : Piece) → IsDescribed forms → IsSound f →
+has_behaviour : (forms : List Entry) (road : Road) (number : ℕ) (f : Function) (m : Compilation) (piece : Piece) → IsDescribed forms → IsSound f →
     AfterComes forms road f (Ok m) → IsWritten forms number m.function piece → HasBehaviour f piece.items
 has_behaviour forms road number f m piece described sound comes written = record {
   size = m.layout.size;

@@ -11,7 +11,7 @@ use Rattle.schedule.proofs.OneLaws.{scheduled_one}
 use Rattle.func_input.specs.Outcome.{Outcome}
 use Rattle.func_after.specs.Each.{EachComes}
 use Rattle.func_after.specs.After.{Answer, AfterComes}
-use Rattle.func_after.specs.declared.made.Made.{Made}
+use Rattle.func_after.specs.declared.compilation.Compilation.{Compilation}
 use Rattle.func_after.proofs.Each.{one_each}
 use Rattle.func_after.proofs.OneAfter.{one_after}
 use Rattle.func_text.specs.Recog.{OutputComes}
@@ -19,15 +19,15 @@ use Rattle.func_text.specs.Cycles.{lines_of, where_comes, FunctionComes, Functio
 use Rattle.func_text.proofs.One.{output_one}
 
 module _ (es : List Entry) where
-  not_both : {P : Type 0} (f : Function) (e : Refusal) (m : Made) → AfterComes es Usual f (Err e) → AfterComes es Usual f (Ok m) → P
+  not_both : {P : Type 0} (f : Function) (e : Refusal) (m : Compilation) → AfterComes es Usual f (Err e) → AfterComes es Usual f (Ok m) → P
   not_both f e m wrong after =
       absurd (let same : ◌≡◌ {A = Answer} (Err e) (Ok m) = one_after es Usual f (Err e) (Ok m) wrong after in let never : ⊥ = cc in never)
 
   same_err : (e d : Refusal) → ◌≡◌ {A = Answer} (Err e) (Err d) → ◌≡◌ {A = Outcome} (Err e) (Err d)
   same_err e d is = ap (λ (x : Refusal). Err x) (let same : e ≡ d = cc in same)
 
-  same_function : (m n : Made) → ◌≡◌ {A = Answer} (Ok m) (Ok n) → m.function ≡ n.function
-  same_function m n is = ap (λ (k : Made). k.function) (let same : m ≡ n = cc in same)
+  same_function : (m n : Compilation) → ◌≡◌ {A = Answer} (Ok m) (Ok n) → m.function ≡ n.function
+  same_function m n is = ap (λ (k : Compilation). k.function) (let same : m ≡ n = cc in same)
 
   -- in one new order
   ordered_one : (f before before_too g h : Function) (cs ds : List CycleOf) (a b : Outcome) → before ≡ before_too →

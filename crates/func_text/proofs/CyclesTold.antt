@@ -11,7 +11,7 @@ use Rattle.func_input.specs.Input.{RefusesWith}
 use Rattle.func_input.proofs.Refusing.{refuses_map}
 use Rattle.func_after.specs.Each.{EachComes}
 use Rattle.func_after.specs.After.{AfterComes}
-use Rattle.func_after.specs.declared.made.Made.{Made}
+use Rattle.func_after.specs.declared.compilation.Compilation.{Compilation}
 use Rattle.func_text.specs.Recog.{OutputComes}
 use Rattle.func_text.specs.Cycles.{lines_of, FunctionComes}
 
@@ -20,7 +20,7 @@ module _ (es : List Entry) (f : Function) where
   pub after_refuses : (e : Refusal) → RefusesWith e (AfterComes es Usual f) → RefusesWith e (FunctionComes es f)
   after_refuses e r = refuses_map e (AfterComes es Usual f) (FunctionComes es f) (λ e after. FunctionComes.refused e after) r
 
-  module _ (m : Made) (g : Function) (cycles : List CycleOf) (after : AfterComes es Usual f (Ok m)) (goes : Scheduled es (pipeline_in es) m.function cycles g) where
+  module _ (m : Compilation) (g : Function) (cycles : List CycleOf) (after : AfterComes es Usual f (Ok m)) (goes : Scheduled es (pipeline_in es) m.function cycles g) where
     -- an instruction in the new order has no form
     pub form_refuses : (e : Refusal) → RefusesWith e (EachComes (OutputComes es f.name) g.insns) → RefusesWith e (FunctionComes es f)
     form_refuses e r = refuses_map e (EachComes (OutputComes es f.name) g.insns) (FunctionComes es f) (λ e come. FunctionComes.ordered m g cycles (Err e) after goes come) r

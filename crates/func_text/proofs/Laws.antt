@@ -5,7 +5,7 @@ use Rattle.rtx_tree.specs.declared.function.Function.{Function}
 use Rattle.pass_name.specs.declared.road.Road.{Road}
 use Rattle.md_forms.specs.declared.form.Entry.{Entry}
 use Rattle.func_after.specs.After.{AfterComes}
-use Rattle.func_after.specs.declared.made.Made.{Made}
+use Rattle.func_after.specs.declared.compilation.Compilation.{Compilation}
 use Rattle.asm_out.specs.declared.piece.Piece.{Piece}
 use Rattle.asm_out.specs.Comes as out
 use Rattle.asm_out.specs.Outcome as out_of
@@ -23,7 +23,7 @@ use Rattle.func_after.proofs.Kept.{after_name}
 
 -- a function that has an assembly, with what the passes made of it
 record HasAlone (forms : List Entry) (road : Road) (number size : ℕ) (f : Function) (a : Assembly) : Type 0 where
-  pub made : Made
+  pub made : Compilation
   pub comes_after : AfterComes forms road f (Ok made)
   pub piece : Piece
   pub comes : out.FunctionComes forms number made.function size (Ok piece)
@@ -32,7 +32,7 @@ record HasAlone (forms : List Entry) (road : Road) (number size : ℕ) (f : Func
 pub same_assembly : (a b : Assembly) → ◌≡◌ {A = Outcome} (Ok a) (Ok b) → a ≡ b
 same_assembly a b is = cc
 
-told_alone : (forms : List Entry) (road : Road) (number size : ℕ) (f : Function) (m : Made) (o : out_of.Outcome) (a : Assembly) →
+told_alone : (forms : List Entry) (road : Road) (number size : ℕ) (f : Function) (m : Compilation) (o : out_of.Outcome) (a : Assembly) →
     AfterComes forms road f (Ok m) → out.FunctionComes forms number m.function size o → told_for f m o ≡ Ok a → HasAlone forms road number size f a
 told_alone forms road number size f m (Ok piece) a after comes is =
     record { made = m; comes_after = after; piece = piece; comes = comes; is = same_assembly (alone f m piece) a is }

@@ -13,7 +13,7 @@ use Rattle.form_needs.proofs.OneChosen.{both, chosen_one, chosen_not}
 use Rattle.func_input.specs.Outcome.{Outcome}
 use Rattle.func_after.specs.Each.{EachComes}
 use Rattle.func_after.specs.After.{Answer, AfterComes}
-use Rattle.func_after.specs.declared.made.Made.{Made}
+use Rattle.func_after.specs.declared.compilation.Compilation.{Compilation}
 use Rattle.func_after.proofs.Each.{one_each}
 use Rattle.func_after.proofs.OneAfter.{one_after}
 use Rattle.func_text.specs.Recog.{line_of, OutputComes, FunctionComes, FunctionsCome}
@@ -39,15 +39,15 @@ module _ (es : List Entry) (function : List ℕ) (i : Insn) where
 -- ---- functions
 
 module _ (es : List Entry) where
-  not_both : {P : Type 0} (f : Function) (e : Refusal) (m : Made) → AfterComes es Usual f (Err e) → AfterComes es Usual f (Ok m) → P
+  not_both : {P : Type 0} (f : Function) (e : Refusal) (m : Compilation) → AfterComes es Usual f (Err e) → AfterComes es Usual f (Ok m) → P
   not_both f e m wrong after =
       absurd (let same : ◌≡◌ {A = Answer} (Err e) (Ok m) = one_after es Usual f (Err e) (Ok m) wrong after in let never : ⊥ = cc in never)
 
   same_err : (e d : Refusal) → ◌≡◌ {A = Answer} (Err e) (Err d) → ◌≡◌ {A = Outcome} (Err e) (Err d)
   same_err e d is = ap (λ (x : Refusal). Err x) (let same : e ≡ d = cc in same)
 
-  same_chain : (m n : Made) → ◌≡◌ {A = Answer} (Ok m) (Ok n) → m.function.insns ≡ n.function.insns
-  same_chain m n is = ap (λ (k : Made). k.function.insns) (let same : m ≡ n = cc in same)
+  same_chain : (m n : Compilation) → ◌≡◌ {A = Answer} (Ok m) (Ok n) → m.function.insns ≡ n.function.insns
+  same_chain m n is = ap (λ (k : Compilation). k.function.insns) (let same : m ≡ n = cc in same)
 
   function_one : (f : Function) (a b : Outcome) → FunctionComes es f a → FunctionComes es f b → a ≡ b
   function_one f _ _ (FunctionComes.refused e after) (FunctionComes.refused d after') = same_err e d (one_after es Usual f (Err e) (Err d) after after')

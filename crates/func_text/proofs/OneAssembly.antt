@@ -7,7 +7,7 @@ use Rattle.md_forms.specs.declared.form.Entry.{Entry}
 use Rattle.func_input.proofs.One as input
 use Rattle.func_input.proofs.One.{one_coming_to}
 use Rattle.func_after.specs.After.{Answer, AfterComes}
-use Rattle.func_after.specs.declared.made.Made.{Made}
+use Rattle.func_after.specs.declared.compilation.Compilation.{Compilation}
 use Rattle.func_after.proofs.OneAfter.{one_after}
 use Rattle.asm_out.specs.Comes as out
 use Rattle.asm_out.proofs.PlaceOne.{function_one}
@@ -16,14 +16,14 @@ use Rattle.func_text.specs.Assembly.{told_for, FunctionComes, Outcome, AreWritte
 use Rattle.func_text.specs.Compile.{FunctionsCome, InputComes}
 
 module _ (forms : List Entry) (road : Road) where
-  not_both : {P : Type 0} (f : Function) (e : Refusal) (m : Made) → AfterComes forms road f (Err e) → AfterComes forms road f (Ok m) → P
+  not_both : {P : Type 0} (f : Function) (e : Refusal) (m : Compilation) → AfterComes forms road f (Err e) → AfterComes forms road f (Ok m) → P
   not_both f e m wrong after =
       absurd (let same : ◌≡◌ {A = Answer} (Err e) (Ok m) = one_after forms road f (Err e) (Ok m) wrong after in let never : ⊥ = cc in never)
 
   same_err : (e d : Refusal) → ◌≡◌ {A = Answer} (Err e) (Err d) → ◌≡◌ {A = Outcome} (Err e) (Err d)
   same_err e d is = ap (λ (x : Refusal). Err x) (let same : e ≡ d = cc in same)
 
-  same_made : (m n : Made) → ◌≡◌ {A = Answer} (Ok m) (Ok n) → m ≡ n
+  same_made : (m n : Compilation) → ◌≡◌ {A = Answer} (Ok m) (Ok n) → m ≡ n
   same_made m n is = cc
 
   one_function : (number size : ℕ) (f : Function) (a b : Outcome) → FunctionComes forms road number size f a →
@@ -33,10 +33,10 @@ module _ (forms : List Entry) (road : Road) where
   one_function number size f _ _ (FunctionComes.written m o after comes) (FunctionComes.refused e after') = not_both f e m after' after
   one_function number size f _ _ (FunctionComes.written m o after comes) (FunctionComes.written n p after' comes') =
       let same : m ≡ n = same_made m n (one_after forms road f (Ok m) (Ok n) after after') in
-      ap (λ (k : Made). told_for f k o) same
+      ap (λ (k : Compilation). told_for f k o) same
       ∙ ap (told_for f n)
       (function_one forms number n.function size o p
-      (subst (λ (k : Made). out.FunctionComes forms number k.function size o) same comes) comes')
+      (subst (λ (k : Compilation). out.FunctionComes forms number k.function size o) same comes) comes')
 
   same_one : (a b : Assembly) → ◌≡◌ {A = Outcome} (Ok a) (Ok b) → a ≡ b
   same_one a b is = cc

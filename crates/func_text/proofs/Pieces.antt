@@ -11,7 +11,7 @@ use Rattle.func_input.proofs.Refusing.{refuses_map, made_refuses}
 use Rattle.func_after.specs.After.{AfterComes, refused_for}
 use Rattle.func_after.proofs.PassLaws.{told_for}
 use Rattle.pass_name.specs.declared.pass.Pass.TheVariants.{Output}
-use Rattle.func_after.specs.declared.made.Made.{Made}
+use Rattle.func_after.specs.declared.compilation.Compilation.{Compilation}
 use Rattle.asm_out.specs.pass_refusal.declared.refusal.PassRefusal.{PassRefusal}
 use Rattle.asm_out.specs.pass_refusal.Outcome as pass
 use Rattle.asm_out.specs.Comes as out
@@ -23,7 +23,7 @@ use Rattle.func_text.specs.machine.Steps.{AppendsAssembly, WrittenComes}
 
 -- ---- a function as it comes to output
 
-pub piece_written : {A : Type 0} (forms : List Entry) (number : ℕ) (f : Function) (m : Made) (text text' : List ℕ)
+pub piece_written : {A : Type 0} (forms : List Entry) (number : ℕ) (f : Function) (m : Compilation) (text text' : List ℕ)
     (none items : List CodeItem) (parts parts' : List (List CodeItem)) (x : A) → none ≡ [] →
     out_of.Appends text text' none items (Ok x) (out.FunctionComes forms number m.function (length text)) → parts' ≡ parts ++ items ∷ [] →
     AppendsAssembly text text' parts parts' (Ok (summary_of f m items)) (WrittenComes forms number (length text) f m)
@@ -32,7 +32,7 @@ piece_written forms number f m text text' none items parts parts' x empty writte
     let parts_are = is ∙ ap (λ (i : List CodeItem). parts ++ i ∷ []) items_are in
     (alone f m written.0, (Ok written.0, written.1, refl), written.2, parts_are, ap (summary_of f m) items_are)
 
-pub piece_refused : (forms : List Entry) (number size : ℕ) (f : Function) (m : Made) (e : PassRefusal) (told : Refusal) →
+pub piece_refused : (forms : List Entry) (number size : ℕ) (f : Function) (m : Compilation) (e : PassRefusal) (told : Refusal) →
     pass.RefusesWith e (out.FunctionComes forms number m.function size) → IsOrMemory told (refused_for f.name Output e) →
     RefusesWith told (WrittenComes forms number size f m)
 piece_refused forms number size f m e told r is =
@@ -41,12 +41,12 @@ piece_refused forms number size f m e told r is =
 
 -- ---- a function
 
-written_comes : (forms : List Entry) (road : Road) (number size : ℕ) (f : Function) (m : Made) (told : Outcome) → AfterComes forms road f (Ok m) →
+written_comes : (forms : List Entry) (road : Road) (number size : ℕ) (f : Function) (m : Compilation) (told : Outcome) → AfterComes forms road f (Ok m) →
     WrittenComes forms number size f m told → FunctionComes forms road number size f told
 written_comes forms road number size f m told after w =
     subst (FunctionComes forms road number size f) (sym w.2) (FunctionComes.written m w.0 after w.1)
 
-pub next_comes : (forms : List Entry) (road : Road) (number size : ℕ) (f : Function) (m : Made) (text text' : List ℕ)
+pub next_comes : (forms : List Entry) (road : Road) (number size : ℕ) (f : Function) (m : Compilation) (text text' : List ℕ)
     (parts parts' : List (List CodeItem)) (r : Result Summary Refusal) → AfterComes forms road f (Ok m) →
     AppendsAssembly text text' parts parts' r (WrittenComes forms number size f m) →
     AppendsAssembly text text' parts parts' r (FunctionComes forms road number size f)

@@ -9,7 +9,7 @@ use Rattle.func_input.specs.machine.Steps.{AppendedSome}
 use Rattle.func_input.proofs.Refusing.{refuses_map}
 use Rattle.func_after.specs.Each.{EachComes}
 use Rattle.func_after.specs.After.{AfterComes}
-use Rattle.func_after.specs.declared.made.Made.{Made}
+use Rattle.func_after.specs.declared.compilation.Compilation.{Compilation}
 use Rattle.func_text.specs.Recog.{OutputComes, FunctionComes}
 
 -- a pass refused it
@@ -17,7 +17,7 @@ pub after_refuses : (es : List Entry) (f : Function) (e : Refusal) → RefusesWi
 after_refuses es f e r = refuses_map e (AfterComes es Usual f) (FunctionComes es f) (λ e after. FunctionComes.refused e after) r
 
 -- or it did not, and then the lines tell
-pub function_comes : {B : Type 0} (es : List Entry) (f : Function) (m : Made) (old new : List ℕ) (r : Result B Refusal) →
+pub function_comes : {B : Type 0} (es : List Entry) (f : Function) (m : Compilation) (old new : List ℕ) (r : Result B Refusal) →
     AfterComes es Usual f (Ok m) → AppendedSome old new r (EachComes (OutputComes es f.name) m.function.insns) →
     AppendedSome old new r (FunctionComes es f)
 function_comes es f m old new (Ok z) after out = (out.0, FunctionComes.printed m (Ok out.0) after out.1, out.2)

@@ -7,7 +7,7 @@ use Rattle.run_refusal.specs.declared.refusal.Refusal.{Refusal}
 use Rattle.pass_name.specs.declared.road.Road.{Road}
 use Rattle.md_forms.specs.declared.form.Entry.{Entry}
 use Rattle.func_after.specs.After.{AfterComes, refused_for}
-use Rattle.func_after.specs.declared.made.Made.{Made}
+use Rattle.func_after.specs.declared.compilation.Compilation.{Compilation}
 use Rattle.asm_out.specs.declared.piece.Piece.{Piece}
 use Rattle.asm_out.specs.Comes as out
 use Rattle.asm_out.specs.Outcome as out_of
@@ -21,7 +21,7 @@ abbrev pub nothing : Assembly
 nothing = record { text = []; parts = []; summary = summaries.empty }
 
 -- the assembly of one function, with what the passes made of it
-abbrev pub alone : Function → Made → Piece → Assembly
+abbrev pub alone : Function → Compilation → Piece → Assembly
 alone f m piece = record { text = piece.text; parts = piece.items ∷ []; summary = summary_of f m piece.items }
 
 -- an assembly and another behind it
@@ -40,7 +40,7 @@ outcome_behind a (Err e) = Err e
 
 -- what a function comes to with what it comes to at output: its text with its lines and labels, and
 -- its summary; or the refusal of the run
-abbrev pub told_for : Function → Made → out_of.Outcome → Outcome
+abbrev pub told_for : Function → Compilation → out_of.Outcome → Outcome
 told_for f m (Ok piece) = Ok (alone f m piece)
 told_for f m (Err e) = Err (refused_for f.name Output e)
 
@@ -48,7 +48,7 @@ told_for f m (Err e) = Err (refused_for f.name Output e)
 -- else what it comes to there.
 pub data FunctionComes (forms : List Entry) (road : Road) (number size : ℕ) (f : Function) : Outcome → Type 0 where
   refused : (e : Refusal) → AfterComes forms road f (Err e) → FunctionComes forms road number size f (Err e)
-  written : (m : Made) (o : out_of.Outcome) → AfterComes forms road f (Ok m) →
+  written : (m : Compilation) (o : out_of.Outcome) → AfterComes forms road f (Ok m) →
       out.FunctionComes forms number m.function size o →
       FunctionComes forms road number size f (told_for f m o)
 

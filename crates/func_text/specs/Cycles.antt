@@ -13,7 +13,7 @@ use Rattle.schedule.specs.declared.plan.CycleOf.{CycleOf}
 use Rattle.func_input.specs.Outcome.{Outcome}
 use Rattle.func_after.specs.Each.{EachComes}
 use Rattle.func_after.specs.After.{AfterComes}
-use Rattle.func_after.specs.declared.made.Made.{Made}
+use Rattle.func_after.specs.declared.compilation.Compilation.{Compilation}
 use Rattle.func_text.specs.Recog.{OutputComes}
 
 -- ---- lines
@@ -39,7 +39,7 @@ where_comes text (Err e) = Err e
 -- those in the regions that took their new order.
 pub data FunctionComes (forms : List Entry) (f : Function) : Outcome → Type 0 where
   refused : (e : Refusal) → AfterComes forms Usual f (Err e) → FunctionComes forms f (Err e)
-  ordered : (m : Made) (g : Function) (cycles : List CycleOf) (outcome : Outcome) →
+  ordered : (m : Compilation) (g : Function) (cycles : List CycleOf) (outcome : Outcome) →
       AfterComes forms Usual f (Ok m) →
       Scheduled forms (pipeline_in forms) m.function cycles g →
       EachComes (OutputComes forms f.name) g.insns outcome →

@@ -10,12 +10,12 @@ use Rattle.pass_name.specs.declared.road.Road.TheVariants.{Usual}
 use Rattle.func_input.specs.Outcome.{Outcome}
 use Rattle.func_after.specs.Each.{EachComes}
 use Rattle.func_after.specs.After.{IsBehind}
-use Rattle.func_after.specs.declared.made.Made.{Made}
+use Rattle.func_after.specs.declared.compilation.Compilation.{Compilation}
 
 -- a function: what refuses it on the usual road to the pass, or its text behind it
 pub data FunctionComes (forms : List Entry) (pass : Pass) (f : Function) : Outcome → Type 0 where
   refused : (e : Refusal) → IsBehind forms Usual f pass (Err e) → FunctionComes forms pass f (Err e)
-  printed : (m : Made) → IsBehind forms Usual f pass (Ok m) →
+  printed : (m : Compilation) → IsBehind forms Usual f pass (Ok m) →
       FunctionComes forms pass f (Ok (printed_function m.function))
 
 -- some functions, one behind the other

@@ -6,7 +6,7 @@ use Rattle.rtx_tree.specs.declared.function.Function.{Function}
 use Rattle.pass_name.specs.declared.road.Road.{Road}
 use Rattle.md_forms.specs.declared.form.Entry.{Entry}
 use Rattle.func_after.specs.After.{AfterComes}
-use Rattle.func_after.specs.declared.made.Made.{Made}
+use Rattle.func_after.specs.declared.compilation.Compilation.{Compilation}
 use Rattle.asm_out.specs.declared.piece.Piece.{Piece}
 use Rattle.asm_out.specs.Written.{IsWritten}
 use Rattle.func_text.specs.declared.assembly.Assembly.{Assembly}
@@ -16,6 +16,6 @@ use Rattle.func_text.specs.Assembly.{nothing, alone, joined}
 -- of it, and is counted in the summary
 pub data IsAssembly (forms : List Entry) (road : Road) : ℕ → List Function → Assembly → Type 0 where
   none : (number : ℕ) → IsAssembly forms road number [] nothing
-  function : (number : ℕ) (f : Function) (m : Made) (functions : List Function) (piece : Piece) (rest : Assembly) → number < 2 ^ 32 →
+  function : (number : ℕ) (f : Function) (m : Compilation) (functions : List Function) (piece : Piece) (rest : Assembly) → number < 2 ^ 32 →
       AfterComes forms road f (Ok m) → IsWritten forms number m.function piece → IsAssembly forms road (number + 1) functions rest →
       IsAssembly forms road number (f ∷ functions) (joined (alone f m piece) rest)

@@ -16,7 +16,7 @@ use Rattle.form_needs.specs.Needs.{needs_form, output_facts, name_at}
 use Rattle.func_input.specs.Outcome.{Outcome}
 use Rattle.func_after.specs.Each.{EachComes}
 use Rattle.func_after.specs.After.{unmatched_at, AfterComes}
-use Rattle.func_after.specs.declared.made.Made.{Made}
+use Rattle.func_after.specs.declared.compilation.Compilation.{Compilation}
 
 -- ---- lines
 
@@ -39,7 +39,7 @@ pub data OutputComes (forms : List Entry) (function : List ℕ) (i : Insn) : Out
 -- a function: what a pass refuses, or else what all instructions come to that the passes make of it
 pub data FunctionComes (forms : List Entry) (f : Function) : Outcome → Type 0 where
   refused : (e : Refusal) → AfterComes forms Usual f (Err e) → FunctionComes forms f (Err e)
-  printed : (m : Made) (outcome : Outcome) → AfterComes forms Usual f (Ok m) →
+  printed : (m : Compilation) (outcome : Outcome) → AfterComes forms Usual f (Ok m) →
       EachComes (OutputComes forms f.name) m.function.insns outcome →
       FunctionComes forms f outcome
 

@@ -10,7 +10,7 @@ use Rattle.pass_name.specs.declared.road.Road.{Road}
 use Rattle.md_forms.specs.declared.form.Entry.{Entry}
 use Rattle.func_after.specs.law_insn_replaced.Sound.{IsSound}
 use Rattle.func_after.specs.After.{AfterComes}
-use Rattle.func_after.specs.declared.made.Made.{Made}
+use Rattle.func_after.specs.declared.compilation.Compilation.{Compilation}
 use Rattle.asm_out.specs.Frame.{framed}
 
 -- The parts of a text that are its functions', in order: between the `NAME:` line and the `.size`
@@ -51,7 +51,7 @@ AreSound functions = (index : ℕ) (f : Function) → slice_get functions index 
 -- the passes laid out its frame
 pub data AreSameFramed (forms : List Entry) (road : Road) : List Function → List (List CodeItem) → Type 0 where
   none : AreSameFramed forms road [] []
-  function : (f : Function) (m : Made) (functions : List Function) (items : List CodeItem) (others : List (List CodeItem)) →
+  function : (f : Function) (m : Compilation) (functions : List Function) (items : List CodeItem) (others : List (List CodeItem)) →
       AfterComes forms road f (Ok m) → Same m.layout.size f items → AreSameFramed forms road functions others →
       AreSameFramed forms road (f ∷ functions) (items ∷ others)
 

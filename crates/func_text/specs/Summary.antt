@@ -5,7 +5,7 @@ use Rattle.rtx_tree.specs.declared.function.Function.{Function}
 use Rattle.rv_text.specs.declared.line.CodeItem.{CodeItem}
 use Rattle.rv_text.specs.declared.line.CodeItem.TheVariants.{Code}
 use Rattle.rtl_chain.specs.Counts.{instruction_count}
-use Rattle.func_after.specs.declared.made.Made.{Made}
+use Rattle.func_after.specs.declared.compilation.Compilation.{Compilation}
 use Rattle.func_text.specs.declared.summary.Summary.{Summary}
 
 -- of no function
@@ -21,7 +21,7 @@ abbrev pub line_count : List CodeItem → ℕ
 line_count items = length (filter is_code items)
 
 -- of a function that came in, what the passes made of it, and its lines and labels
-abbrev pub summary_of : Function → Made → List CodeItem → Summary
+abbrev pub summary_of : Function → Compilation → List CodeItem → Summary
 summary_of f m items = record {
   instructions = instruction_count f.insns;
   combined = m.combined;

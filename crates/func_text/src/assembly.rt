@@ -6,7 +6,7 @@ ghost use Rattle.func_text.specs.machine.Steps.{AppendsAssembly, WrittenComes};
 
 use crate::summary::{Summary, empty, plus, summary_of};
 use asm_out::write_function;
-use func_after::{Made, after, refused_at};
+use func_after::{Compilation, after, refused_at};
 use func_input::next_number;
 use md_desc::Description;
 use pass_name::{Pass, Road};
@@ -40,7 +40,7 @@ fn write_after(
     description: &Description,
     number: u32,
     f: &Function,
-    made: &Made,
+    made: &Compilation,
     text: &mut Vec<u8>,
     parts: &mut Parts,
 ) -> Result<Summary, Refusal>

@@ -2,7 +2,7 @@
 ghost use Rattle.std.specs.Prelude.{◌≡◌, ◌+◌, IfOk};
 ghost use Rattle.func_text.specs.Summary as spec;
 
-use func_after::Made;
+use func_after::Compilation;
 use plain_data::Memory;
 use rtl_chain::instruction_count;
 use rtx_tree::Function;
@@ -50,7 +50,7 @@ fn line_count(items: &[CodeItem]) -> usize
 }
 
 /// The summary of a function, what the passes made of it, and its lines and labels.
-pub(crate) fn summary_of(f: &Function, made: &Made, items: &[CodeItem]) -> Summary
+pub(crate) fn summary_of(f: &Function, made: &Compilation, items: &[CodeItem]) -> Summary
     ensures { result ≡ spec.summary_of f.now made.now items.now }
 {
     Summary {

@@ -11,7 +11,7 @@ use Rattle.law_reading.proofs.law_rules.Kept.{each_admitted}
 use Rattle.law_reading.proofs.law_rules.Ready.{input_well_formed}
 use Rattle.law_reading.proofs.law_rules.Uids.{uids_distinct}
 use Rattle.func_text.proofs.law_insn_replaced.Inputs.{input_sound}
-use Rattle.func_text.specs.func_after.declared.made.Made.{Made}
+use Rattle.func_text.specs.func_after.declared.compilation.Compilation.{Compilation}
 use Rattle.func_text.specs.func_after.After.{AfterComes}
 use Rattle.func_text.specs.func_after.Leads.{IsDescribed}
 use Rattle.func_text.proofs.func_after.Keeping.{after_leads}
@@ -63,7 +63,7 @@ input_does_framed forms road bytes functions a described input assembly = record
 
 -- what the passes make of a function, and the items that have its behaviour
 record SameMade (forms : List Entry) (f : Function) (items : List CodeItem) : Type 0 where
-  pub made : Made
+  pub made : Compilation
   pub after : AfterComes forms Usual f (Ok made)
   pub same : Same made.layout.size f items
 
@@ -82,7 +82,7 @@ same_at forms (suc place) _ _ f items at at' (AreSameFramed.function g m functio
 -- The code of a function of an input with a name has the behaviour of the function, in each frame that has the room at least of which the
 -- passes laid out its frame; this room is no larger than a frame may be, and holds the locals.
 pub coded_is_same : (forms : List Entry) (bytes name : List ℕ) (c : Coded) → IsDescribed forms → IsCoded forms bytes name c →
-    (m : Made) × AfterComes forms Usual c.function (Ok m) × (m.layout.size ≤ 1048560) × (c.function.locals ≤ m.layout.size) ×
+    (m : Compilation) × AfterComes forms Usual c.function (Ok m) × (m.layout.size ≤ 1048560) × (c.function.locals ≤ m.layout.size) ×
     Same m.layout.size c.function c.items
 coded_is_same forms bytes name c described coded =
     let here = same_at forms coded.place coded.functions coded.assembly.parts c.function c.items coded.coded.function coded.coded.items

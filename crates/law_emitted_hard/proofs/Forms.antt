@@ -19,7 +19,7 @@ use Rattle.md_pattern.specs.Pattern.{patterns_of}
 use Rattle.md_draft.specs.declared.head.FormHead.{FormHead}
 use Rattle.md_draft.specs.declared.head.FormHead.TheVariants as head
 use Rattle.md_draft.specs.declared.draft.Matched.{Matched}
-use Rattle.md_draft.specs.declared.draft.Made.{Made}
+use Rattle.md_draft.specs.declared.draft.Replacement.{Replacement}
 use Rattle.md_draft.specs.declared.draft.Draft.{Draft}
 use Rattle.md_draft.specs.declared.draft.DraftEntry.{DraftEntry}
 use Rattle.md_draft.specs.Compact.{old_draft}
@@ -27,7 +27,7 @@ use Rattle.md_draft.specs.Head.{head_named}
 use Rattle.md_draft.specs.Layout.{layout_of, part_at, is_whole}
 use Rattle.md_draft.specs.Patterns.{one_instruction, as_one, insn_patterns, window_patterns, is_window}
 use Rattle.md_draft.specs.Patterns as patterns
-use Rattle.md_draft.specs.Draft.{matched_with, matched_in, made_with, made_in, split_condition_in, statements_in, printed_in, defined_in, draft_with, block_in, without, parts_draft, whole_draft, draft_in, draft_by, headed, head_in, entry_by, condition_in}
+use Rattle.md_draft.specs.Draft.{matched_with, matched_in, replacement_with, replacement_in, split_condition_in, statements_in, printed_in, defined_in, draft_with, block_in, without, parts_draft, whole_draft, draft_in, draft_by, headed, head_in, entry_by, condition_in}
 use Rattle.md_forms.specs.declared.form.Entry.{Entry}
 use Rattle.md_forms.specs.declared.form.Form.{Form}
 use Rattle.md_forms.specs.md_tables.declared.tables.Tables.{Tables}
@@ -47,11 +47,11 @@ as_one_hard (x ∷ y ∷ more) all = (node_hard Parallel Void (x ∷ y ∷ more)
 abbrev MatchedHard : Matched → Type 0
 MatchedHard m = PatternsHard m.patterns
 
-abbrev MadeHard : Made → Type 0
+abbrev MadeHard : Replacement → Type 0
 MadeHard m = PatternsHard m.sequence
 
 abbrev DraftHard : Draft → Type 0
-DraftHard d = MatchedHard d.matched × MadeHard d.made
+DraftHard d = MatchedHard d.matched × MadeHard d.replacement
 
 -- a block leaves the patterns as they are
 without_hard : (block : Option Block) (d : Draft) → DraftHard d → DraftHard (without block d)
@@ -105,14 +105,14 @@ module _ (constants : List Constant) where
         on_map (λ x. PatternsHard x.0 × Any x.1) MatchedHard (λ pair. matched_with pair.0 pair.1) (λ pair is. is.0)
         (both ps c) (on_both PatternsHard Any ps c (matched_there h (part_at ts (layout_of h).patterns)) (any_read c))
 
-    made_hard : (h : FormHead) (ts : List Tree) → OnOk MadeHard (made_in constants values h ts)
-    unfolding made_in
+    made_hard : (h : FormHead) (ts : List Tree) → OnOk MadeHard (replacement_in constants values h ts)
+    unfolding replacement_in
     made_hard h ts =
         let c = split_condition_in constants values h ts in
         let ps = patterns.sequence_in constants (part_at ts (layout_of h).sequence) in
         let s = statements_in constants h ts in
         on_map (λ (x : cond.Tree × (Patterns × cond.Tree)). Any x.0 × (PatternsHard x.1.0 × Any x.1.1)) MadeHard
-        (λ pair. made_with pair.0 pair.1) (λ pair is. is.1.0) (both c (both ps s))
+        (λ pair. replacement_with pair.0 pair.1) (λ pair is. is.1.0) (both c (both ps s))
         (on_both Any (λ (x : Patterns × cond.Tree). PatternsHard x.0 × Any x.1) c (both ps s) (any_read c)
         (on_both PatternsHard Any ps s (made_there (part_at ts (layout_of h).sequence)) (any_read s)))
 
@@ -120,11 +120,11 @@ module _ (constants : List Constant) where
     unfolding parts_draft
     parts_hard block h ts =
         let m = matched_in constants values h ts in
-        let k = made_in constants values h ts in
+        let k = replacement_in constants values h ts in
         let rest = both (printed_in block h ts) (defined_in constants h ts) in
         on_map (λ x. (MatchedHard x.0.0 × MadeHard x.0.1) × Any x.1) DraftHard
         (λ pair. draft_with h pair.0 pair.1) (λ pair is. is.0) (both (both m k) rest)
-        (on_both (λ (x : Matched × Made). MatchedHard x.0 × MadeHard x.1) Any (both m k) rest
+        (on_both (λ (x : Matched × Replacement). MatchedHard x.0 × MadeHard x.1) Any (both m k) rest
         (on_both MatchedHard MadeHard m k (matched_hard h ts) (made_hard h ts)) (any_read rest))
 
     whole_hard : (h : FormHead) (ts : List Tree) → OnOk DraftHard (whole_draft constants values h ts)

@@ -11,7 +11,7 @@ use Rattle.c_eval.specs.declared.facts.Facts.{Facts}
 use Rattle.pred_expr.specs.Texts.{always}
 use Rattle.md_text.specs.declared.template.Template.TheVariants.{One}
 use Rattle.md_operand.specs.Operand.{accepts, register_operand, immediate_operand, memory_operand, const_int_operand, symbol_operand}
-use Rattle.md_operand.specs.declared.own.Own.TheVariants as own
+use Rattle.md_operand.specs.declared.built_in.BuiltIn.TheVariants as own
 use Rattle.md_match.specs.Pattern.{Ops}
 use Rattle.md_recog.specs.Match.{IsMatch}
 use Rattle.md_recog.specs.Recog.{is_instruction}

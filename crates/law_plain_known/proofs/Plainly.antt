@@ -7,7 +7,7 @@ use Rattle.rtx_tree.specs.Code.{mode_or}
 use Rattle.rtx_tree.specs.Tree.{head_of}
 use Rattle.assign.specs.declared.home.HomeOf.{HomeOf}
 use Rattle.assign.specs.declared.places.Layout.{Layout}
-use Rattle.md_operand.specs.Operand.{own_named}
+use Rattle.md_operand.specs.Operand.{built_in_named}
 use Rattle.reload_homes.specs.Homes.{homed}
 use Rattle.reload_operands.specs.declared.operand.Base.{Base}
 use Rattle.reload_operands.specs.declared.operand.Operand.{Operand}
@@ -55,7 +55,7 @@ module _ (pattern placed with_homes : Rtx) (homes : List HomeOf) (layout : Layou
   pub record IsPlainly (operator input output : Bool) : Type 0 where
     pub operator_is : is_operator_code (head_of p).code ≡ operator
     pub scratch_is : is_scratch_code (head_of x).code ≡ false
-    pub address_is : is_address_predicate (own_named (head_of p).name) ≡ false
+    pub address_is : is_address_predicate (built_in_named (head_of p).name) ≡ false
     pub directed : Directed pattern k input output
     pub whole : in_lowpart pattern placed k ≡ false
 
@@ -80,7 +80,7 @@ module _ (pattern placed with_homes : Rtx) (homes : List HomeOf) (layout : Layou
   known_is operator input output i =
       let d = i.directed in
       let scratch = is_scratch_code (head_of x).code in
-      let address = is_address_predicate (own_named (head_of p).name) in
+      let address = is_address_predicate (built_in_named (head_of p).name) in
       let takes = is_input pattern k in
       let gives = is_output pattern k in
       let clobbered = is_clobbered pattern k in

@@ -10,7 +10,7 @@ use Rattle.rtx_tree.specs.Patterns.{set_rtx}
 use Rattle.rtx_tree.specs.Tree.{node_of}
 use Rattle.rtl_func.specs.Shapes as shapes
 use Rattle.md_operand.specs.Operand.{is_comparison, is_comparison_code, has_mode, accepts}
-use Rattle.md_operand.specs.declared.own.Own.TheVariants as own
+use Rattle.md_operand.specs.declared.built_in.BuiltIn.TheVariants as own
 use Rattle.md_match.specs.Pattern.{role_of}
 use Rattle.md_match.specs.declared.role.Role.TheVariants.{Itself}
 use Rattle.md_text.specs.declared.template.Template.{Template}

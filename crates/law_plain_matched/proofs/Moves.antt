@@ -7,7 +7,7 @@ use Rattle.rtx_tree.specs.declared.tree.Rtx.{Rtx, out-Rtx}
 use Rattle.rtx_tree.specs.Patterns.{set_rtx}
 use Rattle.rtx_tree.specs.Tree.{const_of}
 use Rattle.md_operand.specs.Operand.{accepts, register_operand, immediate_operand, memory_operand, const_int_operand, is_symbol, is_constant, is_extended, accepts_mode, symbol_operand}
-use Rattle.md_operand.specs.declared.own.Own.TheVariants as own
+use Rattle.md_operand.specs.declared.built_in.BuiltIn.TheVariants as own
 use Rattle.md_pred.specs.Holds.{holds}
 use Rattle.form_needs.specs.Needs.{lower_facts}
 use Rattle.lower_insn.specs.Lowered.{IsMatched, is_note_tree}

@@ -11,7 +11,7 @@ use Rattle.rtx_tree.specs.Code.{class_of_code, mode_bits}
 use Rattle.rtx_tree.specs.Patterns.{set_rtx}
 use Rattle.rtx_tree.specs.Tree.{node_of}
 use Rattle.md_operand.specs.Operand.{accepts, register_operand, const_int_operand, is_constant, is_extended}
-use Rattle.md_operand.specs.declared.own.Own.TheVariants as own
+use Rattle.md_operand.specs.declared.built_in.BuiltIn.TheVariants as own
 use Rattle.md_match.specs.Pattern.{role_of}
 use Rattle.md_match.specs.declared.role.Role.TheVariants.{Itself}
 use Rattle.md_text.specs.declared.template.Template.{Template}

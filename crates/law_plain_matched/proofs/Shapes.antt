@@ -12,7 +12,7 @@ use Rattle.rtx_tree.specs.Patterns.{set_rtx, is_pc}
 use Rattle.rtx_tree.specs.Tree.{head_of, tree_of, leaf_of, node_of, const_of, kids_of}
 use Rattle.rtl_func.specs.Shapes as shapes
 use Rattle.md_operand.specs.Operand.{is_constant, is_comparison, has_mode, accepts_mode, is_extended, const_int_operand, accepts}
-use Rattle.md_operand.specs.declared.own.Own.TheVariants as own
+use Rattle.md_operand.specs.declared.built_in.BuiltIn.TheVariants as own
 use Rattle.plain_shape.specs.Plain.{is_part, is_one, are_two, is_source, is_operation, is_test, is_target, is_target_by, is_call, is_call_by, is_uid, is_label, is_label_by, are_ways, are_choice, is_choice, is_choice_by, is_set_by, is_jump_by, is_branch_by, is_return_by}
 use Rattle.plain_shape.specs.declared.shape.Part.{Part}
 use Rattle.plain_shape.specs.declared.shape.Part.TheVariants.{Register, RegisterOrConstant}

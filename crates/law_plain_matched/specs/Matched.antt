@@ -11,7 +11,7 @@ use Rattle.rtx_tree.specs.declared.tree.Rtx.{Rtx}
 use Rattle.rtx_tree.specs.Patterns.{set_rtx}
 use Rattle.rtx_tree.specs.Tree.{head_of, tree_of, leaf_of, node_of, const_of}
 use Rattle.md_operand.specs.Operand.{accepts, is_comparison, is_constant, is_extended}
-use Rattle.md_operand.specs.declared.own.Own.TheVariants as own
+use Rattle.md_operand.specs.declared.built_in.BuiltIn.TheVariants as own
 use Rattle.lower_insn.specs.Lowered.{IsMatched, is_note_tree, InsnAnswer, InsnLowers}
 use Rattle.plain_forms.specs.Forms.{plain_forms}
 use Rattle.plain_shape.specs.Plain.{is_plain, register_or_constant}

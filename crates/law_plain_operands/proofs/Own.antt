@@ -4,7 +4,7 @@ use Rattle.rtx_tree.specs.declared.code.Mode.{Mode}
 use Rattle.rtx_tree.specs.declared.tree.Rtx.{Rtx}
 use Rattle.md_forms.specs.declared.form.Entry.{Entry}
 use Rattle.md_operand.specs.Operand.{accepts}
-use Rattle.md_operand.specs.declared.own.Own.TheVariants as own
+use Rattle.md_operand.specs.declared.built_in.BuiltIn.TheVariants as own
 use Rattle.md_pred.specs.Holds.{holds}
 
 module _ (forms : List Entry) (x : Rtx) (m : Mode) where

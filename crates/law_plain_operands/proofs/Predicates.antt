@@ -6,8 +6,8 @@ use Rattle.rtx_tree.specs.declared.code.Code.TheVariants as code
 use Rattle.rtx_tree.specs.declared.code.Mode.{Mode}
 use Rattle.rtx_tree.specs.declared.code.Mode.TheVariants.{Void}
 use Rattle.rtx_tree.specs.declared.tree.Rtx.{Rtx, out-Rtx}
-use Rattle.md_operand.specs.declared.own.Own.{Own}
-use Rattle.md_operand.specs.Operand.{own_named, register_operand, const_int_operand, is_symbol, is_symbol_code}
+use Rattle.md_operand.specs.declared.built_in.BuiltIn.{BuiltIn}
+use Rattle.md_operand.specs.Operand.{built_in_named, register_operand, const_int_operand, is_symbol, is_symbol_code}
 use Rattle.c_eval.specs.Value.{is_a, same_code}
 use Rattle.pred_expr.specs.declared.question.Question.TheVariants as question
 use Rattle.pred_expr.specs.declared.question.Test.{Test}
@@ -21,16 +21,16 @@ use Rattle.law_plain_operands.proofs.Tests.{IsConstantWith, constant_with, const
 
 -- what definitions accept, by one round more
 abbrev others : List Entry → Accepts
-others forms name x m = own_or (own_named name) m x (defined_within (defined forms) (length forms) name x m)
+others forms name x m = own_or (built_in_named name) m x (defined_within (defined forms) (length forms) name x m)
 
 one_more : (n : ℕ) → n + 1 ≡ suc n
 one_more n = omega arith
 
 -- a defined predicate accepts what its test holds for
-tested : (forms : List Entry) (name : List ℕ) (test : Test) (x : Rtx) (m : Mode) → own_named name ≡ None → HasPredicate forms name test →
+tested : (forms : List Entry) (name : List ℕ) (test : Test) (x : Rtx) (m : Mode) → built_in_named name ≡ None → HasPredicate forms name test →
     holds forms name x m ≡ (is_of_mode m x && test_holds (others forms) x m test)
 tested forms name test x m other is =
-    ap (λ (o : Option Own). own_or o m x (defined_within (defined forms) (length forms + 1) name x m)) other ∙
+    ap (λ (o : Option BuiltIn). own_or o m x (defined_within (defined forms) (length forms + 1) name x m)) other ∙
     (ap (λ n. defined_within (defined forms) n name x m) (one_more (length forms)) ∙ ap (λ o. definition_holds (others forms) x m o) is)
 
 second : (p q : Bool) → (p && q) ≡ true → q ≡ true

@@ -15,7 +15,7 @@ use Rattle.rtx_tree.specs.Tree.{const_of, kids_of}
 use Rattle.rtl_func.specs.Shapes.{has_mode, mode_at, number_at}
 use Rattle.md_operand.specs.Operand.{accepts, is_constant, is_constant_code, is_memory, is_memory_by, is_register_by, register_operand, memory_operand}
 use Rattle.md_operand.specs.Operand as operands
-use Rattle.md_operand.specs.declared.own.Own.TheVariants as own
+use Rattle.md_operand.specs.declared.built_in.BuiltIn.TheVariants as own
 use Rattle.md_match.specs.Pattern.{Ops, gives_number, placeholders}
 use Rattle.md_recog.specs.Match.{Accepts}
 use Rattle.md_pred.specs.Holds.{holds}

@@ -7,7 +7,7 @@ use Rattle.rtx_tree.specs.Code.{mode_or}
 use Rattle.rtx_tree.specs.Tree.{head_of}
 use Rattle.assign.specs.declared.home.HomeOf.{HomeOf}
 use Rattle.assign.specs.declared.places.Layout.{Layout}
-use Rattle.md_operand.specs.Operand.{own_named}
+use Rattle.md_operand.specs.Operand.{built_in_named}
 use Rattle.reload_homes.specs.Homes.{homed}
 use Rattle.reload_operands.specs.declared.operand.Base.{Base}
 use Rattle.reload_operands.specs.declared.operand.Operand.{Operand}
@@ -36,7 +36,7 @@ module _ (pattern placed with_homes : Rtx) (homes : List HomeOf) (layout : Layou
   -- what is asked of it besides
   pub record IsFound (mode : Mode) (input output : Bool) : Type 0 where
     pub moded : mode_or (head_of x).mode n ≡ mode
-    pub no_address : is_address_predicate (own_named name) ≡ false
+    pub no_address : is_address_predicate (built_in_named name) ≡ false
     pub directed : Directed pattern k input output
     pub whole : in_lowpart pattern placed k ≡ false
 
@@ -63,7 +63,7 @@ module _ (pattern placed with_homes : Rtx) (homes : List HomeOf) (layout : Layou
       known_is pattern placed with_homes homes layout k p x false input output (record {
         operator_is = ap (λ o. is_operator_code o.code) here;
         scratch_is = sorted.unscratched;
-        address_is = ap (λ o. is_address_predicate (own_named o.name)) here ∙ f.no_address;
+        address_is = ap (λ o. is_address_predicate (built_in_named o.name)) here ∙ f.no_address;
         directed = f.directed;
         whole = f.whole;
       }) ∙

@@ -11,7 +11,7 @@ use Rattle.assign.specs.declared.home.HomeOf.{HomeOf}
 use Rattle.assign.specs.declared.places.Layout.{Layout}
 use Rattle.md_match.specs.Pattern.{Ops, role_of}
 use Rattle.md_match.specs.declared.role.Role.TheVariants.{Itself}
-use Rattle.md_operand.specs.Operand.{own_named}
+use Rattle.md_operand.specs.Operand.{built_in_named}
 use Rattle.md_text.specs.declared.constraint.Member.{Member}
 use Rattle.md_forms.specs.declared.form.Entry.{Entry}
 use Rattle.md_forms.specs.declared.form.Form.{Form}
@@ -86,9 +86,9 @@ module _ (forms : List Entry) (form : ℕ) (f : Form) (is : form_at forms form �
       pub mode_0 : is_mode m ≡ true
       pub mode_1 : is_mode n ≡ true
       pub mode_2 : is_mode o ≡ true
-      pub address_0 : is_address_predicate (own_named p) ≡ false
-      pub address_1 : is_address_predicate (own_named q) ≡ false
-      pub address_2 : is_address_predicate (own_named r) ≡ false
+      pub address_0 : is_address_predicate (built_in_named p) ≡ false
+      pub address_1 : is_address_predicate (built_in_named q) ≡ false
+      pub address_2 : is_address_predicate (built_in_named r) ≡ false
       pub home : sits.IsHome s
       pub input_1 : IsInput t
       pub input_2 : IsInput u

@@ -12,8 +12,8 @@ use Rattle.c_eval.specs.Value.{is_a, same_code}
 use Rattle.pred_expr.specs.declared.question.Question.TheVariants as question
 use Rattle.pred_expr.specs.declared.question.Test.{Test}
 use Rattle.pred_rows.specs.Tests.{Accepts, test_step, test_holds, condition_holds}
-use Rattle.md_operand.specs.declared.own.Own.{Own}
-use Rattle.md_operand.specs.Operand.{own_named, is_register, is_constant, is_constant_code, accepts_mode, has_mode, is_extended, register_operand, const_int_operand}
+use Rattle.md_operand.specs.declared.built_in.BuiltIn.{BuiltIn}
+use Rattle.md_operand.specs.Operand.{built_in_named, is_register, is_constant, is_constant_code, accepts_mode, has_mode, is_extended, register_operand, const_int_operand}
 use Rattle.md_forms.specs.declared.form.Entry.{Entry}
 use Rattle.md_pred.specs.Holds.{is_of_mode, definition_holds, defined, own_or, defined_within, holds}
 use Rattle.plain_forms.specs.Conditions as condition
@@ -27,15 +27,15 @@ use Rattle.law_plain_operands.proofs.Tests.{with_number, value_zero}
 -- ---- what a definition accepts
 
 abbrev others : List Entry → Accepts
-others forms name x m = own_or (own_named name) m x (defined_within (defined forms) (length forms) name x m)
+others forms name x m = own_or (built_in_named name) m x (defined_within (defined forms) (length forms) name x m)
 
 one_more : (n : ℕ) → n + 1 ≡ suc n
 one_more n = omega arith
 
-tested : (forms : List Entry) (name : List ℕ) (test : Test) (x : Rtx) (m : Mode) → own_named name ≡ None → HasPredicate forms name test →
+tested : (forms : List Entry) (name : List ℕ) (test : Test) (x : Rtx) (m : Mode) → built_in_named name ≡ None → HasPredicate forms name test →
     holds forms name x m ≡ (is_of_mode m x && test_holds (others forms) x m test)
 tested forms name test x m other is =
-    ap (λ (o : Option Own). own_or o m x (defined_within (defined forms) (length forms + 1) name x m)) other ∙
+    ap (λ (o : Option BuiltIn). own_or o m x (defined_within (defined forms) (length forms + 1) name x m)) other ∙
     (ap (λ n. defined_within (defined forms) n name x m) (one_more (length forms)) ∙ ap (λ o. definition_holds (others forms) x m o) is)
 
 either_of : (accepts : Accepts) (x : Rtx) (m : Mode) (a b : Test) → test_holds accepts x m (condition.any a b) ≡ (test_holds accepts x m a || test_holds accepts x m b)

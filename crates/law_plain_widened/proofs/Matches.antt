@@ -12,7 +12,7 @@ use Rattle.rtx_tree.proofs.Trees.{head_of-tree, kids_of-tree}
 use Rattle.rtl_func.specs.Shapes.{is_shaped}
 use Rattle.md_operand.specs.Operand.{accepts, is_comparison, is_comparison_code, is_constant, register_operand, const_int_operand}
 use Rattle.md_operand.specs.Operand as operands
-use Rattle.md_operand.specs.declared.own.Own.TheVariants as own
+use Rattle.md_operand.specs.declared.built_in.BuiltIn.TheVariants as own
 use Rattle.md_text.specs.declared.template.Template.TheVariants.{One, Each}
 use Rattle.md_pred.specs.Holds.{holds}
 use Rattle.form_needs.specs.Needs.{lower_facts}

@@ -12,7 +12,7 @@ use Rattle.rtl_func.specs.Shapes.{is_shaped}
 use Rattle.text_words.specs.Words.{fits_i64}
 use Rattle.md_operand.specs.Operand.{accepts, is_comparison, is_constant, is_register, register_operand}
 use Rattle.md_operand.specs.Operand as operands
-use Rattle.md_operand.specs.declared.own.Own.TheVariants as own
+use Rattle.md_operand.specs.declared.built_in.BuiltIn.TheVariants as own
 use Rattle.plain_forms.specs.Forms.{plain_forms}
 use Rattle.std_name.specs.Operands.{input, is_leaf}
 use Rattle.law_plain_leaves.specs.Machine.{Throughout, AreShaped, ArePrintable, is_printable}

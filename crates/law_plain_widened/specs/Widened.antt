@@ -10,7 +10,7 @@ use Rattle.rtx_tree.specs.Patterns.{set_rtx}
 use Rattle.rtx_tree.specs.Tree.{node_of}
 use Rattle.rtl_func.specs.Calls.{has_argument}
 use Rattle.md_operand.specs.Operand.{accepts, is_constant, is_comparison}
-use Rattle.md_operand.specs.declared.own.Own.TheVariants as own
+use Rattle.md_operand.specs.declared.built_in.BuiltIn.TheVariants as own
 use Rattle.lower_insn.specs.Lowered.{InsnAnswer, InsnLowers}
 use Rattle.plain_forms.specs.Forms.{plain_forms}
 use Rattle.law_plain_leaves.specs.Machine.{Throughout, AreShaped, ArePrintable}

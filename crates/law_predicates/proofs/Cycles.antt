@@ -11,8 +11,8 @@ use Rattle.pred_expr.specs.declared.question.Test.{Test}
 use Rattle.pred_expr.specs.Test.{predicates_of, test_of}
 use Rattle.pred_expr.proofs.Tests.{read_is}
 use Rattle.md_draft.specs.declared.head.FormHead.{FormHead}
-use Rattle.md_operand.specs.declared.own.Own.{Own}
-use Rattle.md_operand.specs.Operand.{own_named}
+use Rattle.md_operand.specs.declared.built_in.BuiltIn.{BuiltIn}
+use Rattle.md_operand.specs.Operand.{built_in_named}
 use Rattle.law_predicates.specs.Accepted.{IsDefinition, defines, IsAccepted, Asks, Reaches}
 
 same_third : (a b c x y z : Tree) → a ∷ b ∷ c ∷ [] ≡ x ∷ y ∷ z ∷ [] → c ≡ z
@@ -21,7 +21,7 @@ same_third a b c x y z e = cc
 same_test : (x y : Test) → ◌≡◌ {A = Result Test Reason} (Ok x) (Ok y) → x ≡ y
 same_test x y e = cc
 
-none_some : (o : Own) → ◌≡◌ {A = Option Own} None (Some o) → ⊥
+none_some : (o : BuiltIn) → ◌≡◌ {A = Option BuiltIn} None (Some o) → ⊥
 none_some o e = cc
 
 some_is : (a b : Instance) → Some a ≡ Some b → a ≡ b
@@ -64,7 +64,7 @@ module _ (constants : List Constant) where
     turns name none (Reaches.more _ used _ asks rest) =
         none used asks (longer used name used rest asks)
 
-    own_asks : (name : List ℕ) (o : Own) → own_named name ≡ Some o →
+    own_asks : (name : List ℕ) (o : BuiltIn) → built_in_named name ≡ Some o →
         Reaches constants forms name name → ⊥
     own_asks name o is (Reaches.one _ _ asks) = none_some o (sym asks.other ∙ is)
     own_asks name o is (Reaches.more _ used _ asks rest) = none_some o (sym asks.other ∙ is)

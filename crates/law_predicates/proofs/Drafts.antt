@@ -20,7 +20,7 @@ use Rattle.md_draft.specs.Patterns as patterns
 use Rattle.md_draft.specs.Conditions as conditions
 use Rattle.md_draft.specs.Outputs as outputs
 use Rattle.md_draft.specs.Parts as parts
-use Rattle.md_draft.specs.Draft.{matched_in, made_in, printed_in, defined_in, parts_draft, whole_draft, draft_in}
+use Rattle.md_draft.specs.Draft.{matched_in, replacement_in, printed_in, defined_in, parts_draft, whole_draft, draft_in}
 use Rattle.md_forms.specs.md_tables.Tables.{defines_predicate}
 
 -- ---- the parts
@@ -57,7 +57,7 @@ module _ (constants : List Constant) (values : List (List ℕ)) (a n t : Tree) w
 
   by_read : (h : FormHead) → defines_predicate (Some h) ≡ true → (r : Result Test Reason) →
       test_of constants t ≡ r → whole_draft constants values h ts ≡ judged_map (draft_with h) r
-  unfolding whole_draft parts_draft matched_in made_in printed_in defined_in patterns.patterns_in
+  unfolding whole_draft parts_draft matched_in replacement_in printed_in defined_in patterns.patterns_in
       patterns.sequence_in conditions.condition_in conditions.split_condition_in
       conditions.statements_in outputs.block_in outputs.output_with parts.attributes_in
       parts.test_in parts.class_in parts.values_in parts.default_in

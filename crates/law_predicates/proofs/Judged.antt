@@ -25,8 +25,8 @@ use Rattle.md_forms.specs.Checks.{constraints_stand, attributes_stand, operands_
 use Rattle.md_forms.specs.Checks.{form_with, form_of}
 use Rattle.md_forms.specs.Forms.{draft_entry, judged_form}
 use Rattle.md_forms.specs.Reasons.{tables_in, judged_in}
-use Rattle.md_operand.specs.declared.own.Own.{Own}
-use Rattle.md_operand.specs.Operand.{own_named}
+use Rattle.md_operand.specs.declared.built_in.BuiltIn.{BuiltIn}
+use Rattle.md_operand.specs.Operand.{built_in_named}
 use Rattle.law_predicates.specs.Accepted.{IsDefinition, defines, IsAccepted, AreAccepted}
 use Rattle.law_predicates.specs.Meaning.{Stands, AreJudged}
 use Rattle.law_predicates.proofs.Lists.{each_passes, all_pass}
@@ -168,12 +168,12 @@ module _ (constants : List Constant) (forms : List Instance) where
       let s = taken form has.head f has.is has.defines judged in
       IsAccepted.defined name form has.head s.test found s.definition s.accepted
 
-  accepted_taken : (name : List ℕ) (form : Instance) → own_named name ≡ None →
+  accepted_taken : (name : List ℕ) (form : Instance) → built_in_named name ≡ None →
       find (defines name) forms ≡ Some form → IsAccepted constants forms name →
       (f : Form) × (judged_in constants forms form ≡ Ok f)
   accepted_taken name form none found (IsAccepted.own _ o is) = absurd (none_some o (sym none ∙ is))
     where
-      none_some : (o : Own) → ◌≡◌ {A = Option Own} None (Some o) → ⊥
+      none_some : (o : BuiltIn) → ◌≡◌ {A = Option BuiltIn} None (Some o) → ⊥
       none_some o e = cc
   accepted_taken name form none found (IsAccepted.defined _ first h x there def rest) = (
     form_by h x,

@@ -20,8 +20,8 @@ use Rattle.md_forms.specs.md_tables.Tables as tables
 use Rattle.md_forms.specs.md_tables.Tables.{predicate_draft, tables_of}
 use Rattle.md_forms.specs.Forms.{draft_entry}
 use Rattle.md_forms.specs.Reasons.{tables_in}
-use Rattle.md_operand.specs.declared.own.Own.{Own}
-use Rattle.md_operand.specs.Operand.{own_named}
+use Rattle.md_operand.specs.declared.built_in.BuiltIn.{BuiltIn}
+use Rattle.md_operand.specs.Operand.{built_in_named}
 use Rattle.md_pred.proofs.Firsts.{named, Passes, accepted_passes}
 use Rattle.md_pred.proofs.Asked.{own_is_named}
 use Rattle.law_predicates.specs.Accepted.{IsDefinition, defines, IsAccepted}
@@ -118,21 +118,21 @@ module _ (constants : List Constant) (forms : List Instance) where
         (ap (is_sound ps (accepted_within k ps)) f.is ∙ p.passes)
 
     next_sound : known (suc k) name ≡ true → Is name
-    next_sound e = by_own (own_named name) refl
+    next_sound e = by_own (built_in_named name) refl
       where
-        by_own : (o : Option Own) → own_named name ≡ o → Is name
+        by_own : (o : Option BuiltIn) → built_in_named name ≡ o → Is name
         by_own (Some o) is = IsAccepted.own name o is
         by_own None is =
             by_first (accepted_passes (is_sound ps (accepted_within k ps)) ps name
             (or_cases (is_own name) _ e (own_is_named name is)))
 
   none_sound : (name : List ℕ) → known 0 name ≡ true → Is name
-  none_sound name e = by_own (own_named name) refl
+  none_sound name e = by_own (built_in_named name) refl
     where
       none_passes : Passes (λ d. false) ps name → Is name
       none_passes p = absurd (true≢false (sym p.passes))
 
-      by_own : (o : Option Own) → own_named name ≡ o → Is name
+      by_own : (o : Option BuiltIn) → built_in_named name ≡ o → Is name
       by_own (Some o) is = IsAccepted.own name o is
       by_own None is =
           none_passes (accepted_passes (λ d. false) ps name
@@ -145,7 +145,7 @@ module _ (constants : List Constant) (forms : List Instance) where
   -- ---- what is accepted is known
 
   module _ (n : ℕ) (long : length ps ≤ n) where
-    own_known : (name : List ℕ) (o : Own) → own_named name ≡ Some o → known n name ≡ true
+    own_known : (name : List ℕ) (o : BuiltIn) → built_in_named name ≡ Some o → known n name ≡ true
     own_known name o is = rw is refl
 
     defined_known : (name : List ℕ) (form : Instance) (h : FormHead) (x : Test) →

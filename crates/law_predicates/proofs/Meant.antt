@@ -14,8 +14,8 @@ use Rattle.md_forms.specs.declared.form.Entry.{Entry}
 use Rattle.md_forms.specs.declared.form.Form.{Form}
 use Rattle.md_forms.specs.Forms.{draft_entry, finished, forms_of}
 use Rattle.md_forms.specs.Reasons.{tables_in, judged_in}
-use Rattle.md_operand.specs.declared.own.Own.{Own}
-use Rattle.md_operand.specs.Operand.{own_named}
+use Rattle.md_operand.specs.declared.built_in.BuiltIn.{BuiltIn}
+use Rattle.md_operand.specs.Operand.{built_in_named}
 use Rattle.pred_rows.specs.Tests.{Accepts, test_holds}
 use Rattle.md_pred.specs.Holds.{mode_fits, tested, form_holds, definition_holds, defined, own_or}
 use Rattle.md_pred.specs.Holds.{holds, AreDefined, IsTold}
@@ -56,12 +56,12 @@ module _ (constants : List Constant) (forms : List Instance) where
         ap (λ (k : FormHead). mode_fits k m x && tested other x m f.test) s.head_is
         ∙ ap (λ (t : Option Test). mode_fits h m x && tested other x m t) s.test_is
 
-    by_own_name : (o : Option Own) (u : Bool) → own_named name ≡ o →
-        own_or (own_named name) m x u ≡ own_or o m x u
-    by_own_name o u is = ap (λ (p : Option Own). own_or p m x u) is
+    by_own_name : (o : Option BuiltIn) (u : Bool) → built_in_named name ≡ o →
+        own_or (built_in_named name) m x u ≡ own_or o m x u
+    by_own_name o u is = ap (λ (p : Option BuiltIn). own_or p m x u) is
 
   -- a predicate without a definition, that the manual hasn't either
-  undefined : (name : List ℕ) → own_named name ≡ None → find (defines name) forms ≡ None →
+  undefined : (name : List ℕ) → built_in_named name ≡ None → find (defines name) forms ≡ None →
       IsAccepted constants forms name → ⊥
   undefined name none nothing (IsAccepted.own _ o is) = no_some o (sym none ∙ is)
   undefined name none nothing (IsAccepted.defined _ form h t there def rest) =
@@ -72,7 +72,7 @@ module _ (constants : List Constant) (forms : List Instance) where
   module _ (other : Accepts) (so : AreDefined es other) where
     aside_so : (name : List ℕ) (x : Rtx) (m : Mode) → (IsAccepted constants forms name → ⊥) →
         other name x m ≡ false
-    aside_so name x m none = by_own (own_named name) refl
+    aside_so name x m none = by_own (built_in_named name) refl
       where
         by_judged : (form : Instance) (r : Result Form Reason) →
             find (defines name) forms ≡ Some form → judged_in constants forms form ≡ r →
@@ -86,7 +86,7 @@ module _ (constants : List Constant) (forms : List Instance) where
         by_first None nothing = definition_is other name x m None nothing
         by_first (Some form) found = by_judged form (judged_in constants forms form) found refl
 
-        by_own : (o : Option Own) → own_named name ≡ o → other name x m ≡ false
+        by_own : (o : Option BuiltIn) → built_in_named name ≡ o → other name x m ≡ false
         by_own (Some o) is = absurd (none (IsAccepted.own name o is))
         by_own None is = so name x m ∙ by_own_name other name x m None (defined es other name x m)
             is ∙ by_first (find (defines name) forms) refl
@@ -104,9 +104,9 @@ module _ (constants : List Constant) (forms : List Instance) where
   -- ---- to that equation
 
   defined_so : (other : Accepts) → AreMeant constants forms other → AreDefined es other
-  defined_so other meant name x m = by_own (own_named name) refl
+  defined_so other meant name x m = by_own (built_in_named name) refl
     where
-      first_taken : (form : Instance) → own_named name ≡ None →
+      first_taken : (form : Instance) → built_in_named name ≡ None →
           find (defines name) forms ≡ Some form → IsAccepted constants forms name ↔
           ((f : Form) × (judged_in constants forms form ≡ Ok f))
       first_taken = (are_judged constants forms).first name
@@ -115,7 +115,7 @@ module _ (constants : List Constant) (forms : List Instance) where
           (f : Form) × (judged_in constants forms form ≡ Ok f) → ⊥
       not_taken form r judged some = aside r some.0 (sym judged ∙ some.1)
 
-      by_judged : (form : Instance) (r : Result Form Reason) → own_named name ≡ None →
+      by_judged : (form : Instance) (r : Result Form Reason) → built_in_named name ≡ None →
           find (defines name) forms ≡ Some form → judged_in constants forms form ≡ r →
           other name x m ≡ defined es other name x m
       by_judged form (Err r) none found judged =
@@ -128,15 +128,15 @@ module _ (constants : List Constant) (forms : List Instance) where
           ∙ sym (stands_holds other name x m form has.head f s)
           ∙ sym (form_is other name x m form (Ok f) found judged)
 
-      by_first : (o : Option Instance) → own_named name ≡ None → find (defines name) forms ≡ o →
+      by_first : (o : Option Instance) → built_in_named name ≡ None → find (defines name) forms ≡ o →
           other name x m ≡ defined es other name x m
       by_first None none nothing = meant.aside name x m (undefined name none nothing)
           ∙ sym (definition_is other name x m None nothing)
       by_first (Some form) none found = by_judged form (judged_in constants forms form) none found
           refl
 
-      by_own : (o : Option Own) → own_named name ≡ o →
-          other name x m ≡ own_or (own_named name) m x (defined es other name x m)
+      by_own : (o : Option BuiltIn) → built_in_named name ≡ o →
+          other name x m ≡ own_or (built_in_named name) m x (defined es other name x m)
       by_own (Some o) is = meant.own name o x m is
           ∙ sym (by_own_name other name x m (Some o) (defined es other name x m) is)
       by_own None is = by_first (find (defines name) forms) is refl

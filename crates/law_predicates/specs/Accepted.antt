@@ -13,8 +13,8 @@ use Rattle.md_draft.specs.declared.head.FormHead.{FormHead}
 use Rattle.md_draft.specs.Draft.{name_in}
 use Rattle.md_draft.specs.Reasons.{head_of}
 use Rattle.md_forms.specs.md_tables.Tables.{defines_predicate}
-use Rattle.md_operand.specs.declared.own.Own.{Own}
-use Rattle.md_operand.specs.Operand.{own_named}
+use Rattle.md_operand.specs.declared.built_in.BuiltIn.{BuiltIn}
+use Rattle.md_operand.specs.Operand.{built_in_named}
 use Rattle.md_pred.specs.Holds.{is_named}
 
 -- ---- definitions
@@ -43,7 +43,7 @@ defines name form =
 -- A predicate is accepted where every description has it, or where the form that defines it first
 -- is a definition, and the predicates that its test names are accepted.
 pub data IsAccepted (constants : List Constant) (forms : List Instance) : List ℕ → Type 0 where
-  own : (name : List ℕ) (o : Own) → own_named name ≡ Some o → IsAccepted constants forms name
+  own : (name : List ℕ) (o : BuiltIn) → built_in_named name ≡ Some o → IsAccepted constants forms name
   defined : (name : List ℕ) (form : Instance) (h : FormHead) (test : Test) →
       find (defines name) forms ≡ Some form →
       IsDefinition constants form.tree h test →
@@ -64,7 +64,7 @@ pub record Asks (constants : List Constant) (forms : List Instance) (name used :
     pub form : Instance
     pub head : FormHead
     pub test : Test
-    pub other : own_named name ≡ None
+    pub other : built_in_named name ≡ None
     pub first : find (defines name) forms ≡ Some form
     pub definition : IsDefinition constants form.tree head test
     pub names : Contains (predicates_of test) used

@@ -22,8 +22,8 @@ use Rattle.md_forms.specs.md_tables.Tables.{defines_predicate}
 use Rattle.md_forms.specs.Checks.{has_reason}
 use Rattle.md_forms.specs.Forms.{forms_of}
 use Rattle.md_forms.specs.Reasons.{tables_in, judged_in}
-use Rattle.md_operand.specs.declared.own.Own.{Own}
-use Rattle.md_operand.specs.Operand.{accepts, own_named}
+use Rattle.md_operand.specs.declared.built_in.BuiltIn.{BuiltIn}
+use Rattle.md_operand.specs.Operand.{accepts, built_in_named}
 use Rattle.pred_rows.specs.Tests.{Accepts, test_holds}
 use Rattle.md_pred.specs.Holds.{holds, mode_fits}
 use Rattle.law_predicates.specs.Accepted.{IsDefinition, defines, IsAccepted, AreAccepted, Reaches}
@@ -62,7 +62,7 @@ pub record AreJudged (constants : List Constant) (forms : List Instance) : Type 
       IsDefinition constants form.tree h test →
       AreAccepted constants forms (predicates_of test) →
       (f : Form) × (judged_in constants forms form ≡ Ok f)
-  pub first : (name : List ℕ) (form : Instance) → own_named name ≡ None →
+  pub first : (name : List ℕ) (form : Instance) → built_in_named name ≡ None →
       find (defines name) forms ≡ Some form →
       IsAccepted constants forms name ↔ ((f : Form) × (judged_in constants forms form ≡ Ok f))
   pub named : (d : Draft) → (has_reason (tables_in constants forms) d reason.Predicate ≡ false) ↔
@@ -79,11 +79,11 @@ pub record AreJudged (constants : List Constant) (forms : List Instance) : Type 
 -- again; any other takes nothing.
 pub record AreMeant (constants : List Constant) (forms : List Instance) (takes : Accepts) : Type 0
   where
-    pub own : (name : List ℕ) (o : Own) (x : Rtx) (m : Mode) → own_named name ≡ Some o →
+    pub own : (name : List ℕ) (o : BuiltIn) (x : Rtx) (m : Mode) → built_in_named name ≡ Some o →
         takes name x m ≡ accepts o m x
     pub tested :
         (name : List ℕ) (form : Instance) (h : FormHead) (test : Test) (x : Rtx) (m : Mode) →
-        own_named name ≡ None → find (defines name) forms ≡ Some form →
+        built_in_named name ≡ None → find (defines name) forms ≡ Some form →
         IsDefinition constants form.tree h test → AreAccepted constants forms (predicates_of test) →
         takes name x m ≡ (mode_fits h m x && test_holds takes x m test)
     pub aside : (name : List ℕ) (x : Rtx) (m : Mode) → (IsAccepted constants forms name → ⊥) →

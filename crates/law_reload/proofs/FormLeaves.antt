@@ -22,7 +22,7 @@ use Rattle.md_pattern.specs.Pattern.{patterns_of}
 use Rattle.md_draft.specs.declared.head.FormHead.{FormHead}
 use Rattle.md_draft.specs.declared.head.FormHead.TheVariants as head
 use Rattle.md_draft.specs.declared.draft.Matched.{Matched}
-use Rattle.md_draft.specs.declared.draft.Made.{Made}
+use Rattle.md_draft.specs.declared.draft.Replacement.{Replacement}
 use Rattle.md_draft.specs.declared.draft.Draft.{Draft}
 use Rattle.md_draft.specs.declared.draft.DraftEntry.{DraftEntry}
 use Rattle.md_draft.specs.Compact.{old_draft}
@@ -30,7 +30,7 @@ use Rattle.md_draft.specs.Head.{head_named}
 use Rattle.md_draft.specs.Layout.{layout_of, part_at, is_whole}
 use Rattle.md_draft.specs.Patterns.{one_instruction, as_one, insn_patterns, window_patterns, is_window}
 use Rattle.md_draft.specs.Patterns as patterns
-use Rattle.md_draft.specs.Draft.{matched_with, matched_in, made_in, printed_in, defined_in, draft_with, block_in, without, parts_draft, whole_draft, draft_in, draft_by, headed, head_in, entry_by, condition_in}
+use Rattle.md_draft.specs.Draft.{matched_with, matched_in, replacement_in, printed_in, defined_in, draft_with, block_in, without, parts_draft, whole_draft, draft_in, draft_by, headed, head_in, entry_by, condition_in}
 use Rattle.md_forms.specs.declared.form.Entry.{Entry}
 use Rattle.md_forms.specs.declared.form.Form.{Form}
 use Rattle.md_forms.specs.md_tables.declared.tables.Tables.{Tables}
@@ -116,12 +116,12 @@ module _ (constants : List Constant) where
     unfolding parts_draft
     parts_leaves block h ts =
         let m = matched_in constants values h ts in
-        let k = made_in constants values h ts in
+        let k = replacement_in constants values h ts in
         let rest = both (printed_in block h ts) (defined_in constants h ts) in
         on_map (λ x. (MatchedLeaves x.0.0 × Any x.0.1) × Any x.1) DraftLeaves
         (λ pair. draft_with h pair.0 pair.1)
         (λ pair is. is.0.0) (both (both m k) rest)
-        (on_both (λ (x : Matched × Made). MatchedLeaves x.0 × Any x.1) Any (both m k) rest
+        (on_both (λ (x : Matched × Replacement). MatchedLeaves x.0 × Any x.1) Any (both m k) rest
         (on_both MatchedLeaves Any m k (matched_leaves h ts) (any_read k)) (any_read rest))
 
     whole_leaves : (h : FormHead) (ts : List Tree) → OnOk DraftLeaves

@@ -65,7 +65,7 @@ odd_text tables form t =
 
 unfoldable pub unknown_constraint : Tables → Tree → Draft → Option About
 unknown_constraint tables form d =
-    first_found (odd_text tables form) (d.matched.patterns.texts ++ d.made.sequence.texts)
+    first_found (odd_text tables form) (d.matched.patterns.texts ++ d.replacement.sequence.texts)
 
 -- ---- an attribute
 

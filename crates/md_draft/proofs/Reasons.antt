@@ -13,7 +13,7 @@ use Rattle.md_draft.specs.Layout.{layout_of, part_at, is_whole}
 use Rattle.md_draft.specs.Outputs.{output_with as output_made, block_in as block_there, output_of_tree, block_of_tree}
 use Rattle.md_draft.specs.OutputReasons.{OutputHasReason}
 use Rattle.md_draft.specs.Draft as draft
-use Rattle.md_draft.specs.Draft.{block_in, draft_in, draft_by, parts_draft, without, whole_draft, matched_in, made_in, printed_in, defined_in, matched_with, made_with, printed_with, defined_with, draft_with, head_in, headed, entry_by, entry_of}
+use Rattle.md_draft.specs.Draft.{block_in, draft_in, draft_by, parts_draft, without, whole_draft, matched_in, replacement_in, printed_in, defined_in, matched_with, replacement_with, printed_with, defined_with, draft_with, head_in, headed, entry_by, entry_of}
 use Rattle.md_draft.specs.Reasons.{HasReason, Applies, head_of}
 use Rattle.md_draft.proofs.OutputReasons.{of_output}
 use Rattle.md_pattern.proofs.Smallest.{Of, Or, alone, change, made as made_of, pair, with}
@@ -29,9 +29,9 @@ module _ (constants : List Constant) (values : List (List ℕ)) (h : FormHead) (
   abbrev OfMade : Reason → Type 0
   OfMade = Or (Of (draft.split_condition_in constants values h ts)) (Or (Of (draft.sequence_in constants h ts)) (Of (draft.statements_in constants h ts)))
 
-  made : IsSmallest OfMade (made_in constants values h ts)
-  unfolding made_in
-  made = with (Of (draft.split_condition_in constants values h ts)) (Or (Of (draft.sequence_in constants h ts)) (Of (draft.statements_in constants h ts))) made_with (draft.split_condition_in constants values h ts) (both (draft.sequence_in constants h ts) (draft.statements_in constants h ts)) (alone _)
+  made : IsSmallest OfMade (replacement_in constants values h ts)
+  unfolding replacement_in
+  made = with (Of (draft.split_condition_in constants values h ts)) (Or (Of (draft.sequence_in constants h ts)) (Of (draft.statements_in constants h ts))) replacement_with (draft.split_condition_in constants values h ts) (both (draft.sequence_in constants h ts) (draft.statements_in constants h ts)) (alone _)
       (pair (Of (draft.sequence_in constants h ts)) (Of (draft.statements_in constants h ts)) (draft.sequence_in constants h ts) (draft.statements_in constants h ts) (alone _) (alone _))
 
   abbrev OfOutput : Reason → Type 0
@@ -74,8 +74,8 @@ module _ (constants : List Constant) (values : List (List ℕ)) (h : FormHead) (
 
   of_parts : IsSmallest OfAll (parts_draft (block_in h ts) constants values h ts)
   unfolding parts_draft
-  of_parts = with (Or OfMatched OfMade) (Or OfPrinted OfDefined) (draft_with h) (both (matched_in constants values h ts) (made_in constants values h ts)) (both (printed_in (block_in h ts) h ts) (defined_in constants h ts))
-      (pair OfMatched OfMade (matched_in constants values h ts) (made_in constants values h ts) matched made) (pair OfPrinted OfDefined (printed_in (block_in h ts) h ts) (defined_in constants h ts) printed defined)
+  of_parts = with (Or OfMatched OfMade) (Or OfPrinted OfDefined) (draft_with h) (both (matched_in constants values h ts) (replacement_in constants values h ts)) (both (printed_in (block_in h ts) h ts) (defined_in constants h ts))
+      (pair OfMatched OfMade (matched_in constants values h ts) (replacement_in constants values h ts) matched made) (pair OfPrinted OfDefined (printed_in (block_in h ts) h ts) (defined_in constants h ts) printed defined)
 
   -- that a form is said without its block changes no reason
   whole : IsSmallest OfAll (whole_draft constants values h ts)

@@ -118,7 +118,7 @@ unfoldable pub old_draft : Block → Draft → Draft
 old_draft block d = record {
   head = d.head;
   matched = record { patterns = old_patterns block d.matched.patterns; condition = d.matched.condition };
-  made = d.made;
+  replacement = d.replacement;
   printed = old_printed block d.matched.patterns d.printed;
   defined = d.defined;
 }

@@ -17,7 +17,7 @@ use Rattle.md_draft.specs.declared.head.RegisterClass.{RegisterClass}
 use Rattle.md_draft.specs.declared.draft.Attribute.{Attribute}
 use Rattle.md_draft.specs.declared.draft.Output.{Output}
 use Rattle.md_draft.specs.declared.draft.Matched.{Matched}
-use Rattle.md_draft.specs.declared.draft.Made.{Made}
+use Rattle.md_draft.specs.declared.draft.Replacement.{Replacement}
 use Rattle.md_draft.specs.declared.draft.Printed.{Printed}
 use Rattle.md_draft.specs.declared.draft.Defined.{Defined}
 use Rattle.md_draft.specs.declared.draft.Draft.{Draft}
@@ -86,14 +86,14 @@ unfoldable pub matched_in : List Constant → List (List ℕ) → FormHead → L
 matched_in constants values h ts =
     judged_with matched_with (patterns_in constants h ts) (condition_in constants values h ts)
 
-abbrev pub made_with : cond.Tree → Patterns × cond.Tree → Made
-made_with c more = record { split_condition = c; sequence = more.0; statements = more.1 }
+abbrev pub replacement_with : cond.Tree → Patterns × cond.Tree → Replacement
+replacement_with c more = record { split_condition = c; sequence = more.0; statements = more.1 }
 
-abbrev pub made_by : Judged cond.Tree → Judged Patterns → Judged cond.Tree → Judged Made
-made_by c ps statements = judged_with made_with c (both ps statements)
+abbrev pub made_by : Judged cond.Tree → Judged Patterns → Judged cond.Tree → Judged Replacement
+made_by c ps statements = judged_with replacement_with c (both ps statements)
 
-unfoldable pub made_in : List Constant → List (List ℕ) → FormHead → List Tree → Judged Made
-made_in constants values h ts =
+unfoldable pub replacement_in : List Constant → List (List ℕ) → FormHead → List Tree → Judged Replacement
+replacement_in constants values h ts =
     made_by (split_condition_in constants values h ts) (sequence_in constants h ts) (statements_in constants h ts)
 
 abbrev pub printed_with : Output → List Attribute → Printed
@@ -109,10 +109,10 @@ unfoldable pub defined_in : List Constant → FormHead → List Tree → Judged 
 defined_in constants h ts =
     judged_with defined_with (both (test_in constants h ts) (class_in h ts)) (both (values_in h ts) (default_in h ts))
 
-abbrev pub draft_with : FormHead → Matched × Made → Printed × Defined → Draft
-draft_with h x y = record { head = h; matched = x.0; made = x.1; printed = y.0; defined = y.1 }
+abbrev pub draft_with : FormHead → Matched × Replacement → Printed × Defined → Draft
+draft_with h x y = record { head = h; matched = x.0; replacement = x.1; printed = y.0; defined = y.1 }
 
-abbrev pub together : FormHead → Judged Matched → Judged Made → Judged Printed → Judged Defined →
+abbrev pub together : FormHead → Judged Matched → Judged Replacement → Judged Printed → Judged Defined →
     Judged Draft
 together h m k p d = judged_with (draft_with h) (both m k) (both p d)
 
@@ -120,7 +120,7 @@ together h m k p d = judged_with (draft_with h) (both m k) (both p d)
 unfoldable pub parts_draft : Option Block → List Constant → List (List ℕ) → FormHead → List Tree →
     Judged Draft
 parts_draft block constants values h ts =
-    together h (matched_in constants values h ts) (made_in constants values h ts) (printed_in block h ts) (defined_in constants h ts)
+    together h (matched_in constants values h ts) (replacement_in constants values h ts) (printed_in block h ts) (defined_in constants h ts)
 
 -- a form with a block says what the form without it says
 abbrev pub without : Option Block → Draft → Draft

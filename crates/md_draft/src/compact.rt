@@ -256,7 +256,7 @@ pub fn old_draft(alloc: Global, block: &Block, draft: Draft) -> Result<Draft, Me
     let Draft {
         head,
         matched,
-        made,
+        replacement,
         printed,
         defined,
     } = draft;
@@ -272,7 +272,7 @@ pub fn old_draft(alloc: Global, block: &Block, draft: Draft) -> Result<Draft, Me
             patterns,
             condition,
         },
-        made,
+        replacement,
         printed,
         defined,
     })

@@ -37,9 +37,9 @@ pub struct Matched {
     pub condition: Cond,
 }
 
-/// What a form makes.
+/// What a form puts in the place of what it matches.
 #[derive(Drop)]
-pub struct Made {
+pub struct Replacement {
     /// When the split half of an instruction and its split holds.
     pub split_condition: Cond,
     /// The instructions that it makes in place of the patterns.
@@ -79,7 +79,7 @@ pub struct Draft {
     /// What the form matches.
     pub matched: Matched,
     /// What the form makes.
-    pub made: Made,
+    pub replacement: Replacement,
     /// How the form is printed.
     pub printed: Printed,
     /// What the form defines.

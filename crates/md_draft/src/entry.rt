@@ -8,7 +8,7 @@ ghost use Rattle.md_draft.specs.Reasons.{Applies};
 
 use crate::compact::old_draft;
 use crate::condition::{condition_in, split_condition_in, statements_in};
-use crate::draft::{Defined, Draft, DraftEntry, Made, Matched, Printed};
+use crate::draft::{Defined, Draft, DraftEntry, Matched, Printed, Replacement};
 use crate::head::{FormHead, RegisterClass};
 use crate::layout::{is_whole, layout_of, part_at};
 use crate::output::{block_in, output_in};
@@ -54,11 +54,11 @@ fn made_by(
     split_condition: Judged<Cond>,
     sequence: Judged<Patterns>,
     statements: Judged<Prep>,
-) -> Judged<Made>
+) -> Judged<Replacement>
     ensures { result ≡ spec.made_by split_condition sequence statements }
 {
     match both(split_condition, both(sequence, statements)) {
-        Ok((split_condition, (sequence, statements))) => Ok(Made {
+        Ok((split_condition, (sequence, statements))) => Ok(Replacement {
             split_condition,
             sequence,
             statements,
@@ -67,15 +67,15 @@ fn made_by(
     }
 }
 
-#[tactic(auto, unfolding(crate::specs::Draft::made_in))]
-fn made_in(
+#[tactic(auto, unfolding(crate::specs::Draft::replacement_in))]
+fn replacement_in(
     alloc: Global,
     constants: &Constants,
     values: &[Name],
     head: FormHead,
     items: &[Tree],
-) -> Result<Judged<Made>, Memory>
-    ensures { IfOk result (λ made. made ≡ spec.made_in constants.now values.now head items.now) }
+) -> Result<Judged<Replacement>, Memory>
+    ensures { IfOk result (λ replacement. replacement ≡ spec.replacement_in constants.now values.now head items.now) }
 {
     let places = layout_of(head);
     let insn = part_at(items, places.condition);
@@ -163,20 +163,20 @@ fn defined_in(
     Ok(defined_by(test_and_class, values_and_default))
 }
 
-fn matched_and_made(
+fn matched_and_replacement(
     alloc: Global,
     constants: &Constants,
     values: &[Name],
     head: FormHead,
     items: &[Tree],
-) -> Result<Judged<(Matched, Made)>, Memory>
+) -> Result<Judged<(Matched, Replacement)>, Memory>
     ensures { IfOk result (λ parts.
         parts ≡ both (spec.matched_in constants.now values.now head items.now)
-        (spec.made_in constants.now values.now head items.now)) }
+        (spec.replacement_in constants.now values.now head items.now)) }
 {
     let matched = matched_in(alloc, constants, values, head, items)?;
-    let made = made_in(alloc, constants, values, head, items)?;
-    Ok(both(matched, made))
+    let replacement = replacement_in(alloc, constants, values, head, items)?;
+    Ok(both(matched, replacement))
 }
 
 fn printed_and_defined(
@@ -197,16 +197,16 @@ fn printed_and_defined(
 
 fn together(
     head: FormHead,
-    matched_and_made: Judged<(Matched, Made)>,
+    matched_and_replacement: Judged<(Matched, Replacement)>,
     printed_and_defined: Judged<(Printed, Defined)>,
 ) -> Judged<Draft>
-    ensures { result ≡ judged_with (spec.draft_with head) matched_and_made printed_and_defined }
+    ensures { result ≡ judged_with (spec.draft_with head) matched_and_replacement printed_and_defined }
 {
-    match both(matched_and_made, printed_and_defined) {
-        Ok(((matched, made), (printed, defined))) => Ok(Draft {
+    match both(matched_and_replacement, printed_and_defined) {
+        Ok(((matched, replacement), (printed, defined))) => Ok(Draft {
             head,
             matched,
-            made,
+            replacement,
             printed,
             defined,
         }),
@@ -227,9 +227,9 @@ fn parts_draft(
     ensures { IfOk result (λ draft. draft ≡
         spec.parts_draft (option_copied block.entry) constants.now values.now head items.now) }
 {
-    let matched_and_made = matched_and_made(alloc, constants, values, head, items)?;
+    let matched_and_replacement = matched_and_replacement(alloc, constants, values, head, items)?;
     let printed_and_defined = printed_and_defined(alloc, block, constants, head, items)?;
-    Ok(together(head, matched_and_made, printed_and_defined))
+    Ok(together(head, matched_and_replacement, printed_and_defined))
 }
 
 /// A draft without the block of its form.

@@ -18,7 +18,7 @@ mod output;
 mod pattern;
 mod text;
 
-pub use draft::{Attribute, Defined, Draft, DraftEntry, Made, Matched, Output, Printed};
+pub use draft::{Attribute, Defined, Draft, DraftEntry, Matched, Output, Printed, Replacement};
 pub use entry::entry_of;
 pub use head::{FormHead, RegisterClass};
 pub use md_pattern::{Judged, Reason};

@@ -47,7 +47,7 @@ matched d = flat_map operands_in d.matched.patterns.trees
 
 -- the numbers of the operands of the form, with those of its new sequence
 unfoldable pub all_operands : Draft → List ℕ
-all_operands d = matched d ++ flat_map operands_in d.made.sequence.trees
+all_operands d = matched d ++ flat_map operands_in d.replacement.sequence.trees
 
 abbrev pub has : List ℕ → ℕ → Bool
 has numbers n = list_any (λ m. m == n) numbers
@@ -68,8 +68,8 @@ dup_by settable numbers statements n =
 -- statements may set an operand of a new sequence, and of the pattern of an expander
 unfoldable pub dups_by : List ℕ → Draft → Bool
 dups_by numbers d =
-    list_all (dup_by (is_expander d.head) numbers (heads_of d.made.statements)) (flat_map dups_in d.matched.patterns.trees)
-    && list_all (dup_by true numbers (heads_of d.made.statements)) (flat_map dups_in d.made.sequence.trees)
+    list_all (dup_by (is_expander d.head) numbers (heads_of d.replacement.statements)) (flat_map dups_in d.matched.patterns.trees)
+    && list_all (dup_by true numbers (heads_of d.replacement.statements)) (flat_map dups_in d.replacement.sequence.trees)
 
 -- ---- constraints
 
@@ -79,7 +79,7 @@ constraint_in names t = option_map (λ k. record { operand = t.operand; constrai
 -- the constraints of a form; none where one of them has something unknown in it
 unfoldable pub constraints_in : List (List ℕ) → Draft → Option (List OperandConstraint)
 constraints_in names d =
-    option_and_then (λ ks. option_map (λ more. ks ++ more) (lists.each (constraint_in names) d.made.sequence.texts))
+    option_and_then (λ ks. option_map (λ more. ks ++ more) (lists.each (constraint_in names) d.replacement.sequence.texts))
     (lists.each (constraint_in names) d.matched.patterns.texts)
 
 -- a digit names an operand, and a name a constraint that is accepted
@@ -204,9 +204,9 @@ form_with d ks = record {
   head = d.head;
   patterns = d.matched.patterns.trees;
   condition = d.matched.condition;
-  split_condition = d.made.split_condition;
-  statements = d.made.statements;
-  sequence = d.made.sequence.trees;
+  split_condition = d.replacement.split_condition;
+  statements = d.replacement.statements;
+  sequence = d.replacement.sequence.trees;
   constraints = ks;
   attributes = d.printed.attributes;
   template = template_of d.printed.output;

@@ -12,7 +12,7 @@ use crate::names::{assigned_by, push_all_dups, push_all_operands};
 use crate::operands::OperandNumbers;
 use md_tables::{
     Alternative, Attribute, AttributeDraft, ConstraintDraft, ConstraintNames, Defined, Draft,
-    FormHead, Judged, Made, Matched, Member, OperandText, Output, Patterns, Printed, Reason,
+    FormHead, Judged, Matched, Member, OperandText, Output, Patterns, Printed, Reason, Replacement,
     Tables, Template, all_known, constraint_of, is_among, is_constraint, predicates_named,
 };
 use name_places::NameTable;
@@ -75,7 +75,7 @@ fn numbers_of(alloc: Global, draft: &Draft) -> Result<Numbers, Memory>
         operands_of(alloc, draft.matched.patterns.trees.as_slice())?,
     )?;
     let mut all = operands_of(alloc, draft.matched.patterns.trees.as_slice())?;
-    push_all_operands(draft.made.sequence.trees.as_slice(), &mut all)?;
+    push_all_operands(draft.replacement.sequence.trees.as_slice(), &mut all)?;
     Ok(Numbers { matched, all })
 }
 
@@ -124,9 +124,9 @@ fn all_dups_stand(
 fn dups_stand(alloc: Global, draft: &Draft, matched: &OperandNumbers) -> Result<bool, Memory>
     ensures { IfOk result (λ stand. stand ≡ spec.dups_by matched.now draft.now) }
 {
-    let assigned = assigned_by(alloc, draft.made.statements.heads())?;
+    let assigned = assigned_by(alloc, draft.replacement.statements.heads())?;
     let dups = dups_of(alloc, draft.matched.patterns.trees.as_slice())?;
-    let new_dups = dups_of(alloc, draft.made.sequence.trees.as_slice())?;
+    let new_dups = dups_of(alloc, draft.replacement.sequence.trees.as_slice())?;
     Ok(
         all_dups_stand(is_expander(draft.head), matched, &assigned, dups.as_slice())
             && all_dups_stand(true, matched, &assigned, new_dups.as_slice()),
@@ -180,7 +180,7 @@ fn constraints_in(
     ensures { IfOk result (λ constraints. constraints ≡ spec.constraints_in names.now draft.now) }
 {
     let constraints = constraints_of(alloc, names, draft.matched.patterns.texts.as_slice())?;
-    let more = constraints_of(alloc, names, draft.made.sequence.texts.as_slice())?;
+    let more = constraints_of(alloc, names, draft.replacement.sequence.texts.as_slice())?;
     match (constraints, more) {
         (Some(constraints), Some(more)) => Ok(Some(constraints.append(more)?)),
         _ => Ok(None),
@@ -495,7 +495,7 @@ fn form_with(alloc: Global, draft: Draft, constraints: Items<OperandConstraint>)
     let Draft {
         head,
         matched,
-        made,
+        replacement,
         printed,
         defined,
     } = draft;
@@ -503,11 +503,11 @@ fn form_with(alloc: Global, draft: Draft, constraints: Items<OperandConstraint>)
         patterns,
         condition,
     } = matched;
-    let Made {
+    let Replacement {
         split_condition,
         sequence,
         statements,
-    } = made;
+    } = replacement;
     let Printed { output, attributes } = printed;
     let Defined {
         test,

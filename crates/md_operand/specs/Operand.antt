@@ -10,8 +10,8 @@ use Rattle.rtx_tree.specs.declared.tree.Rtx.{Rtx, out-Rtx}
 use Rattle.rtx_tree.specs.Code.{class_of_code, is_comparison_class, same_mode}
 pub use Rattle.rtx_tree.specs.Tree.{is_constant_code, is_constant}
 use Rattle.md_operand.specs.Addresses.{is_legitimate_address, is_far_address, is_frame_reference, is_base}
-use Rattle.md_operand.specs.declared.own.Own.{Own}
-use Rattle.md_operand.specs.declared.own.Own.TheVariants as own
+use Rattle.md_operand.specs.declared.built_in.BuiltIn.{BuiltIn}
+use Rattle.md_operand.specs.declared.built_in.BuiltIn.TheVariants as own
 
 -- ---- modes
 
@@ -93,7 +93,7 @@ abbrev pub memory_operand : Mode → Rtx → Bool
 memory_operand m x = is_memory x && has_mode m x
 
 -- which trees a predicate of the manual accepts in a mode
-abbrev pub accepts : Own → Mode → Rtx → Bool
+abbrev pub accepts : BuiltIn → Mode → Rtx → Bool
 accepts own.Anything m x = true
 accepts own.Register m x = register_operand m x
 accepts own.ConstInt m x = const_int_operand m x
@@ -109,8 +109,8 @@ accepts own.Frame m x = is_frame_reference x && has_mode m x
 
 -- ---- their names
 
-abbrev pub own_named : List ℕ → Option Own
-own_named name = if bytes_eq name [] then Some own.Anything
+abbrev pub built_in_named : List ℕ → Option BuiltIn
+built_in_named name = if bytes_eq name [] then Some own.Anything
     else if bytes_eq name (codes "register_operand") then Some own.Register
     else if bytes_eq name (codes "const_int_operand") then Some own.ConstInt
     else if bytes_eq name (codes "immediate_operand") then Some own.Immediate

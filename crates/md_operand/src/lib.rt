@@ -1,7 +1,7 @@
 //! What operands are: the predicates that every description has, and the addresses of loads and
 //! stores.
 //!
-//! [`Own`] names the predicates, [`Own::named`] finds one by its name, and [`Own::accepts`] says
+//! [`BuiltIn`] names the predicates, [`BuiltIn::named`] finds one by its name, and [`BuiltIn::accepts`] says
 //! which trees it accepts in a mode. The kinds of operands whatever their mode, as constraints ask
 //! for them, are [`is_register`], [`is_memory`] and [`is_symbol`].
 //! [`legitimate_address`], [`far_address`] and [`frame_reference`] are true exactly where an
@@ -11,9 +11,9 @@
 #![tactic(auto)]
 
 mod addresses;
+mod built_in;
 mod kinds;
-mod own;
 
 pub use addresses::{far_address, frame_reference, is_any_constant, legitimate_address};
+pub use built_in::BuiltIn;
 pub use kinds::{has_mode, is_far, is_memory, is_register, is_symbol};
-pub use own::Own;

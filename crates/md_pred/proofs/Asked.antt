@@ -10,7 +10,7 @@ use Rattle.md_forms.specs.md_tables.declared.tables.Tables.{Tables}
 use Rattle.md_forms.specs.md_tables.Names.{predicates_in, predicates_called, predicates_tested, predicates_named}
 use Rattle.md_forms.specs.md_tables.Predicates.{is_own}
 use Rattle.md_forms.specs.Checks.{predicates_known, reason_of, constraints_of, form_with, unless, form_of}
-use Rattle.md_operand.specs.Operand.{own_named}
+use Rattle.md_operand.specs.Operand.{built_in_named}
 use Rattle.md_pred.proofs.Agreeing.{both_parts}
 
 abbrev Judgement : Type 0
@@ -61,7 +61,7 @@ tested_named p d all =
 
 -- ---- the predicates that every description has
 
-pub own_is_named : (name : List ℕ) → own_named name ≡ None → is_own name ≡ true → ⊥
+pub own_is_named : (name : List ℕ) → built_in_named name ≡ None → is_own name ≡ true → ⊥
 own_is_named name none own = false_true (ap is_some (sym none) ∙ own)
   where
     false_true : false ≡ true → ⊥

@@ -3,7 +3,7 @@ use Rattle.std.proofs.Common.{◌≡◌, ℕ, zero, suc, ◌+◌, ◌<◌, ◌�
 use Rattle.std.specs.Option.{IfSome}
 use Rattle.rtx_tree.specs.declared.code.Mode.{Mode}
 use Rattle.rtx_tree.specs.declared.tree.Rtx.{Rtx}
-use Rattle.md_operand.specs.Operand.{own_named}
+use Rattle.md_operand.specs.Operand.{built_in_named}
 use Rattle.pred_rows.specs.declared.node.Node.{Node}
 use Rattle.md_pred.specs.declared.answers.Answers.{Answers}
 use Rattle.md_pred.specs.declared.definitions.Definition.{Definition}
@@ -28,7 +28,7 @@ module _ (table : PredTable) (x : Rtx) where
 
   -- ---- predicates
 
-  pub defined_known : (name : List ℕ) (d : Option Definition) (a : Answers) (o : Option Answers) → own_named name ≡ None → d ≡ definition_in table.definitions name → AreAnswers (defined_by table x d) a
+  pub defined_known : (name : List ℕ) (d : Option Definition) (a : Answers) (o : Option Answers) → built_in_named name ≡ None → d ≡ definition_in table.definitions name → AreAnswers (defined_by table x d) a
       → IfSome o (λ b. (b.rounds ≡ a.rounds + 1) × ((m : Mode) → answer_in b m ≡ answer_in a m)) → IfSome o (AreAnswers (named_by table x name))
   defined_known name d a None none found are is = tt
   defined_known name d a (Some b) none found are is = by

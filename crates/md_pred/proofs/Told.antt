@@ -17,8 +17,8 @@ use Rattle.md_forms.specs.md_tables.Predicates.{is_own, is_accepted, is_known, i
 use Rattle.md_forms.specs.md_tables.Tables.{predicates_of, predicate_draft, tables_of}
 use Rattle.md_forms.specs.Checks.{form_of, predicates_known}
 use Rattle.md_forms.specs.Forms.{judged_form, finished, forms_in}
-use Rattle.md_operand.specs.declared.own.Own.{Own}
-use Rattle.md_operand.specs.Operand.{own_named}
+use Rattle.md_operand.specs.declared.built_in.BuiltIn.{BuiltIn}
+use Rattle.md_operand.specs.Operand.{built_in_named}
 use Rattle.pred_rows.specs.Tests.{Accepts}
 use Rattle.md_pred.specs.Holds.{mode_fits, tested, form_holds, definition_holds, defines, defined, own_or, within, holds, AreDefined, IsTold}
 use Rattle.md_pred.proofs.Agreeing.{AgreeOn, same_test}
@@ -40,10 +40,10 @@ tested_same p a b agree x m None all = refl
 tested_same p a b agree x m (Some t) all = same_test p a b agree x m t all
 
 -- a predicate that the manual has answers itself
-own_agree : (name : List ℕ) (x : Rtx) (m : Mode) (u v : Bool) → (own_named name ≡ None → u ≡ v) → own_or (own_named name) m x u ≡ own_or (own_named name) m x v
-own_agree name x m u v same = by_own (own_named name) refl
+own_agree : (name : List ℕ) (x : Rtx) (m : Mode) (u v : Bool) → (built_in_named name ≡ None → u ≡ v) → own_or (built_in_named name) m x u ≡ own_or (built_in_named name) m x v
+own_agree name x m u v same = by_own (built_in_named name) refl
   where
-    by_own : (o : Option Own) → own_named name ≡ o → own_or o m x u ≡ own_or o m x v
+    by_own : (o : Option BuiltIn) → built_in_named name ≡ o → own_or o m x u ≡ own_or o m x v
     by_own None is = same is
     by_own (Some o) is = refl
 
@@ -102,12 +102,12 @@ module _ (ds : List DraftEntry) where
   asks_all name own d f is e = (accepted (tables_of ds) d f e).known
 
   -- within no round none is accepted
-  none_first : (name : List ℕ) → known 0 name ≡ true → own_named name ≡ None → ⊥
+  none_first : (name : List ℕ) → known 0 name ≡ true → built_in_named name ≡ None → ⊥
   none_first name h none =
       let first : Passes (λ d. false) ps name = accepted_passes (λ d. false) ps name (or_cases (is_own name) _ h (own_is_named name none)) in
       none_true first.passes
 
-  again : (k : ℕ) (name : List ℕ) → known (suc k) name ≡ true → own_named name ≡ None → Asks k name
+  again : (k : ℕ) (name : List ℕ) → known (suc k) name ≡ true → built_in_named name ≡ None → Asks k name
   again k name h none = asks_known k name (or_cases (is_own name) _ h (own_is_named name none))
 
   -- more rounds change nothing

@@ -13,8 +13,8 @@ use Rattle.md_forms.specs.md_draft.Head.{head_named}
 use Rattle.md_forms.specs.declared.form.Form.{Form}
 use Rattle.md_forms.specs.declared.form.Entry.{Entry}
 use Rattle.md_forms.specs.md_tables.Tables.{defines_predicate}
-use Rattle.md_operand.specs.declared.own.Own.{Own}
-use Rattle.md_operand.specs.Operand.{accepts, has_mode, is_constant, own_named}
+use Rattle.md_operand.specs.declared.built_in.BuiltIn.{BuiltIn}
+use Rattle.md_operand.specs.Operand.{accepts, has_mode, is_constant, built_in_named}
 use Rattle.pred_rows.specs.Tests.{Accepts, test_holds}
 
 -- ---- a definition
@@ -58,19 +58,19 @@ defined es other name x m = definition_holds other x m (find (defines name) es)
 -- ---- predicates
 
 -- a predicate that the manual has answers itself, any other by its definition
-abbrev pub own_or : Option Own → Mode → Rtx → Bool → Bool
+abbrev pub own_or : Option BuiltIn → Mode → Rtx → Bool → Bool
 own_or None m x other = other
 own_or (Some own) m x other = accepts own m x
 
 -- what definitions accept, where they ask for one another so often at most
 abbrev pub defined_within : (Accepts → Accepts) → ℕ → Accepts
 defined_within define zero name x m = false
-defined_within define (suc rounds) name x m = define (λ other y n. own_or (own_named other) n y (defined_within define rounds other y n)) name x m
+defined_within define (suc rounds) name x m = define (λ other y n. own_or (built_in_named other) n y (defined_within define rounds other y n)) name x m
 
 -- Which trees predicates accept in a mode, where definitions ask for one another so often at most.
 -- The predicates that the manual has count before all definitions.
 abbrev pub within : (Accepts → Accepts) → ℕ → Accepts
-within define rounds name x m = own_or (own_named name) m x (defined_within define rounds name x m)
+within define rounds name x m = own_or (built_in_named name) m x (defined_within define rounds name x m)
 
 -- Which trees the predicates of a description accept. That this is told by their definitions alone,
 -- whatever the number of rounds, is the law IsTold: a predicate that reaches itself is set aside.
@@ -84,7 +84,7 @@ holds es = within (defined es) (length es + 1)
 abbrev pub AreDefined : List Entry → Accepts → Type 0
 AreDefined es accepted =
     (name : List ℕ) (x : Rtx) (m : Mode) →
-    accepted name x m ≡ own_or (own_named name) m x (defined es accepted name x m)
+    accepted name x m ≡ own_or (built_in_named name) m x (defined es accepted name x m)
 
 -- The definitions tell what predicates accept: they accept what they are defined to accept, and
 -- nothing else could be accepted.

@@ -8,7 +8,7 @@ ghost use Rattle.md_pred.specs.machine.Known.{answer_in};
 
 use crate::ask::mode_fits;
 use md_forms::FormHead;
-use md_operand::Own;
+use md_operand::BuiltIn;
 use rtx_tree::{Mode, Rtx};
 
 /// The answers to a question in each mode.
@@ -45,7 +45,7 @@ impl Answers {
     }
 
     /// What a predicate that every description has accepts.
-    pub fn of_own(own: Own, x: &Rtx) -> Answers
+    pub fn of_own(own: BuiltIn, x: &Rtx) -> Answers
         ensures { (m : Mode) → answer_in result m ≡ accepts own m x.now }
     {
         Answers {

@@ -14,7 +14,7 @@ use crate::definitions::Definition;
 use crate::step::{At, Step};
 use crate::table::PredTable;
 use md_forms::FormHead;
-use md_operand::{Own, has_mode};
+use md_operand::{BuiltIn, has_mode};
 use pred_rows::{Node, condition_holds, has_code};
 use rtx_tree::{Mode, Name, Rtx};
 
@@ -65,7 +65,7 @@ impl PredTable {
         ensures size { steps.step_size self.now result ≤ rounds *
             (length self.now.definitions.rows + 1) }
     {
-        match Own::named(name.bytes()) {
+        match BuiltIn::named(name.bytes()) {
             Some(own) => Step::Answer(own.accepts(mode, x)),
             None if rounds == 0 => Step::Answer(false),
             None => self.begun(self.definitions.named(name.bytes()), x, mode, rounds - 1),

@@ -15,7 +15,7 @@ use crate::answers::Answers;
 use crate::definitions::Definition;
 use crate::step::Step;
 use crate::table::PredTable;
-use md_operand::Own;
+use md_operand::BuiltIn;
 use pred_rows::{Node, condition_holds, has_code};
 use rtx_tree::{Name, Rtx};
 
@@ -86,7 +86,7 @@ impl PredTable {
         requires { AreKnown self.now x.now known.now }
         ensures { IfSome result (AreAnswers (spec.named_by self.now x.now name.now)) }
     {
-        match Own::named(name.bytes()) {
+        match BuiltIn::named(name.bytes()) {
             Some(own) => Some(Answers::of_own(own, x)),
             None => {
                 self.defined(known, self.definitions.named(name.bytes()), x)?

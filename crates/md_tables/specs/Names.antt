@@ -41,6 +41,6 @@ predicates_tested (Some t) = predicates_of t
 -- all predicates that a form names
 unfoldable pub predicates_named : Draft → List (List ℕ)
 predicates_named d =
-    flat_map predicates_in d.matched.patterns.trees ++ (flat_map predicates_in d.made.sequence.trees
-    ++ (predicates_called d.matched.condition ++ (predicates_called d.made.split_condition
-    ++ (predicates_called d.made.statements ++ predicates_tested d.defined.test))))
+    flat_map predicates_in d.matched.patterns.trees ++ (flat_map predicates_in d.replacement.sequence.trees
+    ++ (predicates_called d.matched.condition ++ (predicates_called d.replacement.split_condition
+    ++ (predicates_called d.replacement.statements ++ predicates_tested d.defined.test))))

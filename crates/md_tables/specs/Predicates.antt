@@ -5,12 +5,12 @@ use Rattle.std.specs.Prelude.{ℕ, zero, suc, Bool, false, ◌&&◌, ◌||◌, L
 use Rattle.std.specs.List.{list_all}
 use Rattle.std.specs.Option.{is_some}
 use Rattle.std.specs.Str.{bytes_eq}
-use Rattle.md_operand.specs.Operand.{own_named}
+use Rattle.md_operand.specs.Operand.{built_in_named}
 use Rattle.md_tables.specs.declared.tables.PredicateDraft.{PredicateDraft}
 
 -- a predicate that is there without a definition; that without a name accepts anything
 abbrev pub is_own : List ℕ → Bool
-is_own name = is_some (own_named name)
+is_own name = is_some (built_in_named name)
 
 -- the first definition of a name is one of the accepted
 abbrev pub is_accepted : List PredicateDraft → List Bool → List ℕ → Bool

@@ -15,8 +15,8 @@ mod walk;
 
 pub use c_cond::{Cond, CondHead, Prep};
 pub use md_draft::{
-    Attribute, Defined, Draft, DraftEntry, FormHead, Made, Matched, Output, Printed, RegisterClass,
-    entry_of,
+    Attribute, Defined, Draft, DraftEntry, FormHead, Matched, Output, Printed, RegisterClass,
+    Replacement, entry_of,
 };
 pub use md_pattern::{Judged, OperandText, Patterns, Reason};
 pub use md_text::{Alternative, Constraint, ConstraintNames, Member, Template, constraint_of};

@@ -80,10 +80,10 @@ fn push_named(alloc: Global, draft: &Draft, names: &mut Items<Name>) -> Result<(
     ensures { OnOk result (names.new ≡ spec.predicates_named draft.now) }
 {
     push_all_predicates(alloc, draft.matched.patterns.trees.as_slice(), names)?;
-    push_all_predicates(alloc, draft.made.sequence.trees.as_slice(), names)?;
+    push_all_predicates(alloc, draft.replacement.sequence.trees.as_slice(), names)?;
     push_called(alloc, draft.matched.condition.heads(), names)?;
-    push_called(alloc, draft.made.split_condition.heads(), names)?;
-    push_called(alloc, draft.made.statements.heads(), names)?;
+    push_called(alloc, draft.replacement.split_condition.heads(), names)?;
+    push_called(alloc, draft.replacement.statements.heads(), names)?;
     push_tested(alloc, &draft.defined.test, names)
 }
 

@@ -6,7 +6,7 @@ ghost use Rattle.md_tables.specs.machine.Depths.{is_below, below, IsNext};
 
 use crate::tables::PredicateDraft;
 use crate::walk::first_depths;
-use md_operand::Own;
+use md_operand::BuiltIn;
 use name_places::NameTable;
 use plain_data::{Items, Memory};
 use rtx_tree::Name;
@@ -16,7 +16,7 @@ use std::alloc::Global;
 pub fn is_own(name: &[u8]) -> bool
     ensures { result ≡ spec.is_own name.now }
 {
-    Own::named(name).is_some()
+    BuiltIn::named(name).is_some()
 }
 
 fn is_accepted(predicates: &NameTable<PredicateDraft>, accepted: &[bool], name: &[u8]) -> bool

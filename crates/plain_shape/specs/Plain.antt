@@ -13,7 +13,7 @@ use Rattle.rtx_tree.specs.declared.tree.Rtx.{Rtx, out-Rtx}
 use Rattle.rtx_tree.specs.Patterns.{is_pc}
 use Rattle.rtx_tree.specs.Tree.{kids_of}
 use Rattle.md_operand.specs.Operand.{is_constant, is_symbol, has_mode, accepts}
-use Rattle.md_operand.specs.declared.own.Own.TheVariants as own
+use Rattle.md_operand.specs.declared.built_in.BuiltIn.TheVariants as own
 use Rattle.rtl_chain.specs.Counts.{is_instruction}
 use Rattle.plain_shape.specs.declared.shape.Part.{Part}
 use Rattle.plain_shape.specs.declared.shape.Part.TheVariants.{Register, AnyRegister, Constant, RegisterOrConstant, Count, Memory, RegisterOrMemory, Symbol, Frame}

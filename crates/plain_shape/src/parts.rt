@@ -4,13 +4,13 @@ ghost use Rattle.rtx_tree.specs.Code.{same_code};
 ghost use Rattle.plain_shape.specs.Plain as spec;
 
 use crate::shape::{Part, Source};
-use md_operand::{Own, has_mode, is_symbol};
+use md_operand::{BuiltIn, has_mode, is_symbol};
 use rtx_tree::{Code, Mode, Rtx};
 
 fn is_register_or_constant(mode: Mode, x: &Rtx) -> bool
     ensures { result ≡ spec.register_or_constant mode x.now }
 {
-    Own::Register.accepts(mode, x) || Own::ConstInt.accepts(mode, x)
+    BuiltIn::Register.accepts(mode, x) || BuiltIn::ConstInt.accepts(mode, x)
 }
 
 fn is_count_in(mode: Mode, x: &Rtx) -> bool
@@ -22,7 +22,7 @@ fn is_count_in(mode: Mode, x: &Rtx) -> bool
 fn is_count(mode: Mode, x: &Rtx) -> bool
     ensures { result ≡ spec.is_count mode x.now }
 {
-    Own::Register.accepts(Mode::QI, x) || is_count_in(mode, x)
+    BuiltIn::Register.accepts(Mode::QI, x) || is_count_in(mode, x)
 }
 
 /// Whether a tree is an operand of a shape.
@@ -30,15 +30,15 @@ pub fn is_part(part: Part, x: &Rtx) -> bool
     ensures { result ≡ spec.is_part part x.now }
 {
     match part {
-        Part::Register(mode) => Own::Register.accepts(mode, x),
-        Part::AnyRegister => Own::Register.accepts(Mode::Void, x),
-        Part::Constant(mode) => Own::ConstInt.accepts(mode, x),
+        Part::Register(mode) => BuiltIn::Register.accepts(mode, x),
+        Part::AnyRegister => BuiltIn::Register.accepts(Mode::Void, x),
+        Part::Constant(mode) => BuiltIn::ConstInt.accepts(mode, x),
         Part::RegisterOrConstant(mode) => is_register_or_constant(mode, x),
         Part::Count(mode) => is_count(mode, x),
-        Part::Memory(mode) => Own::Memory.accepts(mode, x),
-        Part::RegisterOrMemory(mode) => Own::Nonimmediate.accepts(mode, x),
+        Part::Memory(mode) => BuiltIn::Memory.accepts(mode, x),
+        Part::RegisterOrMemory(mode) => BuiltIn::Nonimmediate.accepts(mode, x),
         Part::Symbol => is_symbol(x),
-        Part::Frame => Own::Frame.accepts(Mode::DI, x),
+        Part::Frame => BuiltIn::Frame.accepts(Mode::DI, x),
     }
 }
 
@@ -76,7 +76,7 @@ fn is_operation(code: Code, mode: Mode, x: &Rtx) -> bool
 fn is_test(to: Mode, from: Mode, x: &Rtx) -> bool
     ensures { result ≡ spec.is_test to from x.now }
 {
-    Own::Comparison.accepts(to, x)
+    BuiltIn::Comparison.accepts(to, x)
         && are_two(
             Part::Register(from),
             Part::RegisterOrConstant(from),

@@ -9,9 +9,9 @@ use Rattle.rtx_tree.specs.declared.tree.Rtx.{Rtx}
 use Rattle.rtx_tree.specs.Operands.{operand_at}
 use Rattle.rtx_tree.specs.Tree.{head_of}
 use Rattle.rtx_tree.specs.Code.{mode_or}
-use Rattle.md_operand.specs.declared.own.Own.{Own}
-use Rattle.md_operand.specs.declared.own.Own.TheVariants as owns
-use Rattle.md_operand.specs.Operand.{own_named}
+use Rattle.md_operand.specs.declared.built_in.BuiltIn.{BuiltIn}
+use Rattle.md_operand.specs.declared.built_in.BuiltIn.TheVariants as owns
+use Rattle.md_operand.specs.Operand.{built_in_named}
 use Rattle.md_match.specs.Pattern.{Ops, gives, gives_number, placeholders}
 use Rattle.assign.specs.declared.home.HomeOf.{HomeOf}
 use Rattle.assign.specs.declared.places.Layout.{Layout}
@@ -62,7 +62,7 @@ is_operator_code MatchOperator = true
 is_operator_code _ = false
 
 -- whether a predicate is that of addresses
-abbrev pub is_address_predicate : Option Own → Bool
+abbrev pub is_address_predicate : Option BuiltIn → Bool
 is_address_predicate (Some owns.Address) = true
 is_address_predicate _ = false
 
@@ -75,7 +75,7 @@ operand_for pattern placed with_homes homes layout k p x = record {
   mode = mode_or (head_of x).mode (head_of p).mode;
   is_operator = is_operator_code (head_of p).code;
   is_scratch = is_scratch_code (head_of x).code;
-  is_address = is_address_predicate (own_named (head_of p).name);
+  is_address = is_address_predicate (built_in_named (head_of p).name);
   is_input = is_input pattern k;
   is_output = is_output pattern k;
   is_clobbered = is_clobbered pattern k;

@@ -2,7 +2,7 @@
 ghost use Rattle.std.specs.Prelude.{◌≡◌, ◌++◌, [], ◌∷◌, if◌then◌else◌, IfOk, OnOk, MatchOption, option_map, option_and_then};
 ghost use Rattle.std.specs.Option.{option_copied};
 ghost use Rattle.rtx_tree.specs.Tree.{head_of};
-ghost use Rattle.md_operand.specs.Operand.{own_named};
+ghost use Rattle.md_operand.specs.Operand.{built_in_named};
 ghost use Rattle.reload_homes.specs.Homes.{AreOrdered};
 ghost use Rattle.reload_operands.specs.Operands as spec;
 
@@ -14,7 +14,7 @@ use crate::numbers::numbers_of;
 use crate::operand::Operand;
 use assign::{Homes, Layout};
 use md_match::giver;
-use md_operand::Own;
+use md_operand::BuiltIn;
 use plain_data::{Items, Memory};
 use reload_homes::with_homes;
 use rtx_tree::{Code, Mode, Operands, Rtx};
@@ -33,9 +33,9 @@ fn is_scratch(x: &Rtx) -> bool
 }
 
 fn is_address(placeholder: &Rtx) -> bool
-    ensures { result ≡ spec.is_address_predicate (own_named (head_of placeholder.now).name) }
+    ensures { result ≡ spec.is_address_predicate (built_in_named (head_of placeholder.now).name) }
 {
-    matches!(Own::named(placeholder.name.bytes()), Some(Own::Address))
+    matches!(BuiltIn::named(placeholder.name.bytes()), Some(BuiltIn::Address))
 }
 
 /// What is known of an operand, by its number, its placeholder and its tree before homes are put

@@ -1,5 +1,5 @@
 //! The value of an expression.
-ghost use Rattle.std.specs.Prelude.{◌≡◌, map, option_map, ◌↔◌, IsTrue, IfSome, ◌<◌, ◌^◌};
+ghost use Rattle.std.specs.Prelude.{◌≡◌, map, option_map, ◌↔◌, IsTrue, IfSome, ◌<◌};
 ghost use Rattle.bits64.specs.Operators.{asks_of, taking_of};
 ghost use Rattle.rtx_tree.specs.Code.{class_of_code};
 ghost use Rattle.rtl_step.specs.Value as spec;

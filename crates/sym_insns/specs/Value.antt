@@ -1,7 +1,7 @@
 -- The value of an expression as a term, and what it needs: GCC Internals, chapter "RTL
 -- Representation", whose sections the comments name. It is the value of an expression over terms in
 -- place of numbers: each term is made, by the rules of the normal form, of terms in normal form.
-use Rattle.std.specs.Prelude.{ℕ, ◌==◌, not, ℤ, Bool, true, false, if◌then◌else◌, List, [], ◌∷◌, ◌++◌, length, Option, Some, None}
+use Rattle.std.specs.Prelude.{ℕ, ◌==◌, not, ℤ, Bool, false, if◌then◌else◌, List, [], ◌∷◌, ◌++◌, length, Option, Some, None}
 use Rattle.std.specs.Int.{cast_unsigned, w64}
 use Rattle.bits64.specs.declared.Width.{Width}
 use Rattle.bits64.specs.declared.Width.TheVariants.{W64}

@@ -6,7 +6,7 @@ use Rattle.func_input.specs.Input.{RefusesWith}
 use Rattle.func_input.specs.Outcome as texts
 use Rattle.rtx_tree.specs.declared.function.Function.{Function}
 use Rattle.md_forms.specs.declared.form.Entry.{Entry}
-use Rattle.func_after.specs.declared.made.Made.{Made}
+use Rattle.func_after.specs.declared.compilation.Compilation.{Compilation}
 use Rattle.asm_out.specs.Comes as out
 use Rattle.asm_out.specs.Outcome as out_of
 use Rattle.func_text.specs.declared.assembly.Assembly.{Assembly}
@@ -14,7 +14,7 @@ use Rattle.func_text.specs.declared.summary.Summary.{Summary}
 use Rattle.func_text.specs.Assembly.{Outcome, told_for}
 
 -- what a function comes to with what the passes made of it
-abbrev pub WrittenComes : List Entry → ℕ → ℕ → Function → Made → Outcome → Type 0
+abbrev pub WrittenComes : List Entry → ℕ → ℕ → Function → Compilation → Outcome → Type 0
 WrittenComes forms number size f m told =
     (o : out_of.Outcome) × out.FunctionComes forms number m.function size o × (told ≡ told_for f m o)
 

@@ -1,6 +1,6 @@
 use Rattle.std.proofs.Common.{◌∙◌, sym}
 use Rattle.md_operand.proofs.Lengths.{nineteen, twenty_seven}
-use Rattle.md_operand.proofs.own.Own.named.Goals as goal
+use Rattle.md_operand.proofs.built_in.BuiltIn.named.Goals as goal
 
 pub returns-in-19 : goal.returns-in-19
 returns-in-19 c = c.alone-in-19.ensures ∙ sym (nineteen c.args.name.now c.in-19.is)

@@ -9,7 +9,7 @@ use std::alloc::Global;
 
 /// What the passes have made of a function.
 #[derive(Drop)]
-pub struct Made {
+pub struct Compilation {
     /// The function, as it is now.
     pub function: Function,
     /// How many of its instructions were combined.
@@ -29,12 +29,12 @@ fn no_layout(alloc: Global) -> Layout
 }
 
 /// A function as it was read, before any pass.
-pub(crate) fn as_read(alloc: Global, f: &Function) -> Result<Made, Memory>
+pub(crate) fn as_read(alloc: Global, f: &Function) -> Result<Compilation, Memory>
     ensures { IfOk result (λ m. m ≡ spec.as_read f.now) }
 {
     let function = f.copy(alloc)?;
     let layout = no_layout(alloc);
-    Ok(Made {
+    Ok(Compilation {
         function,
         combined: 0,
         layout,

@@ -1,6 +1,6 @@
 //! The predicates that every description has.
 ghost use Rattle.std.specs.Prelude.{◌≡◌, length, bytes_eq, None, Some, if◌then◌else◌};
-ghost use Rattle.md_operand.specs.declared.own.Own.TheVariants as owns;
+ghost use Rattle.md_operand.specs.declared.built_in.BuiltIn.TheVariants as owns;
 ghost use Rattle.md_operand.specs.Operand as spec;
 
 use crate::addresses::{frame_reference, legitimate_address};
@@ -9,7 +9,7 @@ use rtx_tree::{Mode, Rtx};
 
 /// A predicate that is there without a definition.
 #[derive(Clone, Copy)]
-pub enum Own {
+pub enum BuiltIn {
     /// The one without a name, which accepts anything.
     Anything,
     /// `register_operand`
@@ -91,57 +91,61 @@ fn general_operand(mode: Mode, x: &Rtx) -> bool
 }
 
 /// The predicate with a name of 17 bytes.
-fn of_seventeen(name: &[u8]) -> Option<Own>
+fn of_seventeen(name: &[u8]) -> Option<BuiltIn>
     requires { length name.now ≡ 17 }
-    ensures { result ≡ spec.own_named name.now }
+    ensures { result ≡ spec.built_in_named name.now }
 {
     if name == b"const_int_operand".as_slice() {
-        Some(Own::ConstInt)
+        Some(BuiltIn::ConstInt)
     } else if name == b"immediate_operand".as_slice() {
-        Some(Own::Immediate)
+        Some(BuiltIn::Immediate)
     } else if name == b"nonmemory_operand".as_slice() {
-        Some(Own::Nonmemory)
+        Some(BuiltIn::Nonmemory)
     } else {
         None
     }
 }
 
 /// The predicate with a name of 15 bytes.
-fn of_fifteen(name: &[u8]) -> Option<Own>
+fn of_fifteen(name: &[u8]) -> Option<BuiltIn>
     requires { length name.now ≡ 15 }
-    ensures { result ≡ spec.own_named name.now }
+    ensures { result ≡ spec.built_in_named name.now }
 {
     if name == b"general_operand".as_slice() {
-        Some(Own::General)
+        Some(BuiltIn::General)
     } else if name == b"address_operand".as_slice() {
-        Some(Own::Address)
+        Some(BuiltIn::Address)
     } else {
         None
     }
 }
 
 /// The predicate, where a name is its own.
-fn alone(name: &[u8], text: &[u8], own: Own) -> Option<Own>
+fn alone(name: &[u8], text: &[u8], own: BuiltIn) -> Option<BuiltIn>
     ensures { result ≡ (if bytes_eq name.now text.now then Some own else None) }
 {
     if name == text { Some(own) } else { None }
 }
 
-impl Own {
+impl BuiltIn {
     /// The predicate with a name, which is compared with names of its length alone.
-    pub fn named(name: &[u8]) -> Option<Own>
-        ensures { result ≡ spec.own_named name.now }
+    pub fn named(name: &[u8]) -> Option<BuiltIn>
+        ensures { result ≡ spec.built_in_named name.now }
     {
         match name.len() {
-            0 => Some(Own::Anything),
-            13 => alone(name, b"frame_operand", Own::Frame),
-            14 => alone(name, b"memory_operand", Own::Memory),
+            0 => Some(BuiltIn::Anything),
+            13 => alone(name, b"frame_operand", BuiltIn::Frame),
+            14 => alone(name, b"memory_operand", BuiltIn::Memory),
             15 => of_fifteen(name),
-            16 => alone(name, b"register_operand", Own::Register),
+            16 => alone(name, b"register_operand", BuiltIn::Register),
             17 => of_seventeen(name),
-            19 => alone(name, b"comparison_operator", Own::Comparison),
-            20 => alone(name, b"nonimmediate_operand", Own::Nonimmediate),
-            27 => alone(name, b"ordered_comparison_operator", Own::OrderedComparison),
+            19 => alone(name, b"comparison_operator", BuiltIn::Comparison),
+            20 => alone(name, b"nonimmediate_operand", BuiltIn::Nonimmediate),
+            27 => alone(
+                name,
+                b"ordered_comparison_operator",
+                BuiltIn::OrderedComparison,
+            ),
             _ => None,
         }
     }
@@ -151,17 +155,18 @@ impl Own {
         ensures { result ≡ spec.accepts self mode x.now }
     {
         match self {
-            Own::Anything => true,
-            Own::Register => register_operand(mode, x),
-            Own::ConstInt => const_int_operand(mode, x),
-            Own::Immediate => immediate_operand(mode, x),
-            Own::Memory => memory_operand(mode, x),
-            Own::Nonimmediate => register_operand(mode, x) || memory_operand(mode, x),
-            Own::Nonmemory => register_operand(mode, x) || immediate_operand(mode, x),
-            Own::General => general_operand(mode, x),
-            Own::Address => legitimate_address(x),
-            Own::Comparison | Own::OrderedComparison => is_comparison(x) && has_mode(mode, x),
-            Own::Frame => frame_reference(x) && has_mode(mode, x),
+            BuiltIn::Anything => true,
+            BuiltIn::Register => register_operand(mode, x),
+            BuiltIn::ConstInt => const_int_operand(mode, x),
+            BuiltIn::Immediate => immediate_operand(mode, x),
+            BuiltIn::Memory => memory_operand(mode, x),
+            BuiltIn::Nonimmediate => register_operand(mode, x) || memory_operand(mode, x),
+            BuiltIn::Nonmemory => register_operand(mode, x) || immediate_operand(mode, x),
+            BuiltIn::General => general_operand(mode, x),
+            BuiltIn::Address => legitimate_address(x),
+            BuiltIn::Comparison | BuiltIn::OrderedComparison => is_comparison(x)
+                && has_mode(mode, x),
+            BuiltIn::Frame => frame_reference(x) && has_mode(mode, x),
         }
     }
 }

@@ -44,7 +44,7 @@ stand_distinct d n is =
     let numbers = and_parts (numbers_stand (all_operands d) n) _ is in
     let few = and_parts _ _ numbers.0 in
     first_distinct (flat_map operands_in d.matched.patterns.trees)
-    (flat_map operands_in d.made.sequence.trees)
+    (flat_map operands_in d.replacement.sequence.trees)
     (and_parts _ (are_distinct (all_operands d)) few.1).1
 
 reasonless : (tables : Tables) (d : Draft) → reason_of tables d ≡ None →

@@ -54,10 +54,10 @@ pub tested_named : (p : List ℕ → Bool) (d : Draft) → list_all p (predicate
 unfolding predicates_named
 tested_named p d all =
     let a = both_parts p (flat_map predicates_in d.matched.patterns.trees) _ all in
-    let b = both_parts p (flat_map predicates_in d.made.sequence.trees) _ a.1 in
+    let b = both_parts p (flat_map predicates_in d.replacement.sequence.trees) _ a.1 in
     let c = both_parts p (predicates_called d.matched.condition) _ b.1 in
-    let e = both_parts p (predicates_called d.made.split_condition) _ c.1 in
-    (both_parts p (predicates_called d.made.statements) (predicates_tested d.defined.test) e.1).1
+    let e = both_parts p (predicates_called d.replacement.split_condition) _ c.1 in
+    (both_parts p (predicates_called d.replacement.statements) (predicates_tested d.defined.test) e.1).1
 
 -- ---- the predicates that every description has
 

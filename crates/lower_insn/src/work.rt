@@ -183,19 +183,31 @@ fn lower_part(
     }
 }
 
+/// What is emitted for a pattern: whether it was made, its tree, and the form with its operands.
+struct Emit {
+    made: bool,
+    tree: Rtx,
+    form: u32,
+    operands: Operands,
+}
+
 /// Emits what stands for a pattern.
 fn emit_part(
     alloc: Global,
     desc: &Description,
     uids: Uids,
     work: Work,
-    made: bool,
-    tree: Rtx,
-    form: u32,
-    operands: Operands,
+    emit: Emit,
 ) -> Result<Work, PassRefusal>
-    ensures { Advances desc.now uids (with_part work (part.Emit made tree form operands)) result }
+    ensures { Advances desc.now uids (with_part work (part.Emit emit.made emit.tree emit.form
+        emit.operands)) result }
 {
+    let Emit {
+        made,
+        tree,
+        form,
+        operands,
+    } = emit;
     match emission_of(alloc, desc, form, operands, work.next)? {
         Some(emission) => {
             let next = emission.next;
@@ -250,7 +262,15 @@ fn make_part(
             tree,
             form,
             operands,
-        } => emit_part(alloc, desc, uids, work, made, tree, form, operands),
+        } => {
+            let emit = Emit {
+                made,
+                tree,
+                form,
+                operands,
+            };
+            emit_part(alloc, desc, uids, work, emit)
+        }
         Part::Emitted { tree } => emitted_part(alloc, desc, uids, work, tree),
     }
 }

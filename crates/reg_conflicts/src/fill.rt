@@ -21,20 +21,26 @@ use std::alloc::Global;
 
 const WORD: usize = u64::BITS as usize;
 
+/// A function with the places of its labels and what is live before each of its instructions.
+struct Flow<'a> {
+    function: &'a Function,
+    labels: &'a Labels,
+    live: &'a [RegRow],
+}
+
 /// Adds the conflicts of what one instruction defines with what is live after it.
 fn add_insn(
     alloc: Global,
-    f: &Function,
-    labels: &Labels,
-    live: &[RegRow],
+    flow: &Flow<'_>,
     at: u32,
     insn: &Insn,
     rows: &mut [RegRow],
     set: &mut RegRow,
 ) -> Result<(), Memory>
-    requires short { length f.now.insns < 2 ^ 32 }
-    requires labels { (uid : ℕ) → map.get nat_cmp labels.now uid ≡ place_of uid f.now.insns }
-    requires live { IsTable (length set.old) live.now }
+    requires short { length flow.now.function.now.insns < 2 ^ 32 }
+    requires labels { (uid : ℕ) → map.get nat_cmp flow.now.labels.now uid ≡ place_of uid
+        flow.now.function.now.insns }
+    requires live { IsTable (length set.old) flow.now.live.now }
     requires sparse { AreSparse (length set.old) rows.old }
     requires long { length rows.old ≡ 64 * length set.old }
     requires small { 64 * length set.old ≤ 2 ^ 32 }
@@ -42,11 +48,12 @@ fn add_insn(
     ensures width { length set.new ≡ length set.old }
     ensures sparse { AreSparse (length set.old) rows.new }
     ensures each { OnOk result ((x y : ℕ) → has_at rows.new x y ≡
-        (has_at rows.old x y || (is_beside f.now live.now at insn.now x y || is_beside f.now
-        live.now at insn.now y x))) }
+        (has_at rows.old x y || (is_beside flow.now.function.now flow.now.live.now at insn.now x y
+        || is_beside flow.now.function.now flow.now.live.now at insn.now y x))) }
 {
     let defines = insn_defines(alloc, insn)?;
-    collect(live, successors_by(labels, f.insns.as_slice(), at), set);
+    let insns = flow.function.insns.as_slice();
+    collect(flow.live, successors_by(flow.labels, insns, at), set);
     mark(alloc, rows, defines.as_slice(), set)?;
     Ok(())
 }
@@ -72,8 +79,13 @@ fn fill(
 {
     let insns = f.insns.as_slice();
     let labels = labels_of(alloc, insns)?;
+    let flow = Flow {
+        function: f,
+        labels: &labels,
+        live,
+    };
     for at in 0..insns.len() {
-        add_insn(alloc, f, &labels, live, at as u32, &insns[at], rows, set)?;
+        add_insn(alloc, &flow, at as u32, &insns[at], rows, set)?;
     }
     Ok(())
 }

@@ -35,27 +35,43 @@ fn is_scratch(x: &Rtx) -> bool
 fn is_address(placeholder: &Rtx) -> bool
     ensures { result ≡ spec.is_address_predicate (built_in_named (head_of placeholder.now).name) }
 {
-    matches!(BuiltIn::named(placeholder.name.bytes()), Some(BuiltIn::Address))
+    matches!(
+        BuiltIn::named(placeholder.name.bytes()),
+        Some(BuiltIn::Address)
+    )
+}
+
+/// An instruction whose operands are looked at: the pattern that matched it, the instruction with
+/// its references to the frame put in, and with its homes.
+struct Homed<'a> {
+    pattern: &'a Rtx,
+    placed: &'a Rtx,
+    homed: &'a Rtx,
+    homes: &'a Homes,
+    layout: &'a Layout,
 }
 
 /// What is known of an operand, by its number, its placeholder and its tree before homes are put
 /// in.
 fn operand_for(
     alloc: Global,
-    pattern: &Rtx,
-    placed: &Rtx,
-    homed: &Rtx,
-    homes: &Homes,
-    layout: &Layout,
+    of: &Homed<'_>,
     number: u32,
     placeholder: &Rtx,
     x: &Rtx,
 ) -> Result<Operand, Memory>
-    requires { AreOrdered homes.now layout.now }
+    requires { AreOrdered of.now.homes.now of.now.layout.now }
     ensures { IfOk result (λ operand.
-        operand ≡ spec.operand_for pattern.now placed.now homed.now homes.now layout.now number
-        placeholder.now x.now) }
+        operand ≡ spec.operand_for of.now.pattern.now of.now.placed.now of.now.homed.now
+        of.now.homes.now of.now.layout.now number placeholder.now x.now) }
 {
+    let Homed {
+        pattern,
+        placed,
+        homed,
+        homes,
+        layout,
+    } = of;
     let tree = with_homes(alloc, x, homes, layout)?;
     let base = base_of(homes, layout, x);
     let changed_address = changes_address(homes, placed, homed, base.is_some(), x, &tree);
@@ -81,36 +97,22 @@ fn operand_for(
 /// Adds the operand with a number, where it is there.
 fn add_operand(
     alloc: Global,
-    pattern: &Rtx,
+    of: &Homed<'_>,
     found: &Operands,
-    placed: &Rtx,
-    homed: &Rtx,
-    homes: &Homes,
-    layout: &Layout,
     number: u32,
     operands: &mut Items<Operand>,
 ) -> Result<(), Memory>
-    requires { AreOrdered homes.now layout.now }
-    ensures { OnOk result (operands.new ≡ operands.old ++ spec.operand_with pattern.now found.now
-        placed.now homed.now homes.now layout.now number) }
+    requires { AreOrdered of.now.homes.now of.now.layout.now }
+    ensures { OnOk result (operands.new ≡ operands.old ++ spec.operand_with of.now.pattern.now
+        found.now of.now.placed.now of.now.homed.now of.now.homes.now of.now.layout.now number) }
 {
-    let Some(placeholder) = giver(pattern, number) else {
+    let Some(placeholder) = giver(of.pattern, number) else {
         return Ok(());
     };
     let Some(x) = found.get(number as usize) else {
         return Ok(());
     };
-    let operand = operand_for(
-        alloc,
-        pattern,
-        placed,
-        homed,
-        homes,
-        layout,
-        number,
-        placeholder,
-        x,
-    )?;
+    let operand = operand_for(alloc, of, number, placeholder, x)?;
     operands.push(operand)
 }
 
@@ -131,19 +133,16 @@ pub fn operands_of(
         layout.now) }
 {
     let numbers = numbers_of(alloc, pattern)?;
+    let of = Homed {
+        pattern,
+        placed,
+        homed,
+        homes,
+        layout,
+    };
     let mut operands = Items::new(alloc);
     for number in numbers.as_slice() {
-        add_operand(
-            alloc,
-            pattern,
-            found,
-            placed,
-            homed,
-            homes,
-            layout,
-            *number,
-            &mut operands,
-        )?;
+        add_operand(alloc, &of, found, *number, &mut operands)?;
     }
     Ok(operands)
 }

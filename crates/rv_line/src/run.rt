@@ -29,6 +29,14 @@ pub struct CodeState<'a> {
     pub calls: CodeCalls,
 }
 
+/// What a run goes through: the code, the memory that the caller sees, and the memory that the
+/// functions it calls see.
+struct Setting<'s, 'a> {
+    code: &'s LabelledItems<'a>,
+    ranges: &'s Ranges,
+    seen: &'s Ranges,
+}
+
 /// The state at entry.
 fn entry(alloc: Global, start: &Start) -> Result<RvState, Memory>
     ensures { IfOk result (λ state. state ≡ spec.entry start.now) }
@@ -126,53 +134,48 @@ impl<'a> CodeState<'a> {
         })
     }
 
-    /// Goes on from a line that was done. Called functions see the one list of ranges, the caller
-    /// the other.
+    /// Goes on from a line that was done.
     fn after_line(
         &mut self,
         alloc: Global,
         end: LineEnd,
-        seen: &Ranges,
-        ranges: &Ranges,
-        code: &LabelledItems<'a>,
+        setting: &Setting<'_, 'a>,
         line: &Line,
         rest: &'a [CodeItem],
     ) -> Result<Option<CodeOutcome>, Memory>
         ensures { IfOk result (λ ended.
             Turns ended (running_view self.new)
-            (after_line_seen end seen.now ranges.now code.now line.now rest.entry.now
-            (running_view self.old))) }
+            (after_line_seen end setting.now.seen.now setting.now.ranges.now setting.now.code.now
+            line.now rest.entry.now (running_view self.old))) }
     {
         match end {
             LineEnd::Next => {
                 self.rest = rest;
                 Ok(None)
             }
-            LineEnd::Jumped => Ok(self.jump(code.behind_label(line.target.bytes()))),
-            LineEnd::Called { target } => self.call(alloc, seen, target, rest),
-            LineEnd::Returned => Ok(Some(self.returned(alloc, ranges)?)),
+            LineEnd::Jumped => Ok(self.jump(setting.code.behind_label(line.target.bytes()))),
+            LineEnd::Called { target } => self.call(alloc, setting.seen, target, rest),
+            LineEnd::Returned => Ok(Some(self.returned(alloc, setting.ranges)?)),
             LineEnd::Stuck => Ok(Some(CodeOutcome::Stuck)),
         }
     }
 
-    /// Does the next line. Called functions see the one list of ranges, the caller the other.
+    /// Does the next line.
     fn turn(
         &mut self,
         alloc: Global,
         world: &World,
-        seen: &Ranges,
-        ranges: &Ranges,
-        code: &LabelledItems<'a>,
+        setting: &Setting<'_, 'a>,
     ) -> Result<Option<CodeOutcome>, Memory>
         ensures { IfOk result (λ ended.
-            Turns ended (running_view self.new) (turn_seen world.now seen.now ranges.now code.now
-            (running_view self.old))) }
+            Turns ended (running_view self.new) (turn_seen world.now setting.now.seen.now
+            setting.now.ranges.now setting.now.code.now (running_view self.old))) }
     {
         let Some((line, rest)) = next_line(self.rest) else {
             return Ok(Some(CodeOutcome::Stuck));
         };
         let end = step_line(line, &mut self.machine, world);
-        self.after_line(alloc, end, seen, ranges, code, line, rest)
+        self.after_line(alloc, end, setting, line, rest)
     }
 }
 
@@ -194,8 +197,13 @@ pub fn run_lines(
         replies: world.replies.as_slice(),
         calls: Items::new(alloc),
     };
+    let setting = Setting {
+        code: &code,
+        ranges: &start.visible,
+        seen: &start.visible,
+    };
     for _ in 0..k {
-        if let Some(outcome) = state.turn(alloc, world, &start.visible, &start.visible, &code)? {
+        if let Some(outcome) = state.turn(alloc, world, &setting)? {
             return Ok(outcome);
         }
     }
@@ -246,8 +254,13 @@ pub fn lines_standing(
         replies: world.replies.as_slice(),
         calls: Items::new(alloc),
     };
+    let setting = Setting {
+        code: &code,
+        ranges: &start.visible,
+        seen: &none,
+    };
     for _ in 0..k {
-        if let Some(outcome) = state.turn(alloc, world, &none, &start.visible, &code)? {
+        if let Some(outcome) = state.turn(alloc, world, &setting)? {
             return Ok(counted(outcome));
         }
     }

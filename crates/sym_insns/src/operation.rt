@@ -9,11 +9,11 @@ ghost use Rattle.sym_insns.specs.Value as spec;
 ghost use Rattle.sym_insns.specs.machine.Making.{stores_of};
 
 use crate::before::Before;
-use bits64::{Asks, Operator, Relation, Width};
+use bits64::{Asks, Operator, Width};
 use plain_data::{Items, Memory};
 use rtx_tree::Code;
 use std::alloc::Global;
-use sym_state::{NeedOf, related, term_of};
+use sym_state::{Comparison, NeedOf, related, term_of};
 use sym_term::TermMaker;
 use term_sums::{constant_of, constant_term};
 use term_tree::{Head, Measured, Term};
@@ -29,17 +29,6 @@ pub struct Operation {
     /// The width in which its second operand is read.
     pub operand: Width,
     /// The width of its value.
-    pub width: Width,
-}
-
-/// A comparison of two operands.
-#[derive(Clone, Copy)]
-pub struct Comparison {
-    /// What is compared.
-    pub relation: Relation,
-    /// The width in which its operands are read.
-    pub operand: Width,
-    /// The width of its truth.
     pub width: Width,
 }
 
@@ -136,19 +125,5 @@ pub fn compared(
         ≡ makers.related (stores_of before.now) comparison.relation comparison.operand
         comparison.width (tree_of a) (tree_of b)) }
 {
-    let Comparison {
-        relation,
-        operand,
-        width,
-    } = comparison;
-    related(
-        maker,
-        before.alloc,
-        before.stores,
-        relation,
-        operand,
-        width,
-        a,
-        b,
-    )
+    related(maker, before.alloc, before.stores, comparison, a, b)
 }

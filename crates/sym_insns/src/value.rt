@@ -15,15 +15,13 @@ ghost use Rattle.sym_insns.specs.Value.{made_of};
 ghost use Rattle.sym_insns.specs.machine.Making.{IsMade, reading_by_mode, regs_of, stores_of};
 
 use crate::before::Before;
-use crate::operation::{
-    Comparison, Needs, Operation, binary, compared, conversion_of, need_divisor, unary,
-};
+use crate::operation::{Needs, Operation, binary, compared, conversion_of, need_divisor, unary};
 use bits64::{Operator, Width};
 use plain_data::{Items, Memory};
 use rtl_step::{alone, counting, operator_of, relation_of, width_of};
 use rtx_tree::{Class, Code, Mode, Name, Rtx};
 use std::alloc::Global;
-use sym_state::{NeedOf, one, own_symbol, read, read_need};
+use sym_state::{Comparison, NeedOf, one, own_symbol, read, read_need};
 use sym_term::TermMaker;
 use term_sums::constant_term;
 use term_tree::{Head, Measured, Term};

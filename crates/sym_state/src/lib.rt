@@ -15,7 +15,7 @@ mod registers;
 mod state;
 mod terms;
 
-pub use makers::{one, related, term_of};
+pub use makers::{Comparison, one, related, term_of};
 pub use refusal::SymRefusal;
 pub use registers::{held, leave_by_call, put, read, read_need};
 pub use state::{

@@ -109,22 +109,32 @@ fn truth_in(
     }
 }
 
-/// The truth of a comparison of two terms of `own` bits, in a width.
+/// A comparison: its relation, the width of its operands, and the width of its result.
+#[derive(Clone, Copy)]
+pub struct Comparison {
+    /// The relation.
+    pub relation: Relation,
+    /// The width of the operands.
+    pub operand: Width,
+    /// The width of the result.
+    pub width: Width,
+}
+
+/// The truth of a comparison of two terms.
 pub fn related(
     maker: &mut TermMaker,
     alloc: Global,
     stores: &SymStores,
-    relation: Relation,
-    own: Width,
-    w: Width,
+    comparison: Comparison,
     a: Term,
     b: Term,
 ) -> Result<Term, Memory>
     ensures { IfOk result (λ r. tree_of r
-        ≡ spec.related (map store_of stores.now) relation own w (tree_of a) (tree_of b)) }
+        ≡ spec.related (map store_of stores.now) comparison.relation comparison.operand
+        comparison.width (tree_of a) (tree_of b)) }
 {
-    let truth = maker.compared(relation, own, a, b)?;
-    truth_in(maker, alloc, stores, w, truth)
+    let truth = maker.compared(comparison.relation, comparison.operand, a, b)?;
+    truth_in(maker, alloc, stores, comparison.width, truth)
 }
 
 /// An operator of which nothing else is known, over one term or two.
@@ -172,7 +182,14 @@ pub fn term_of(
         Operator::Shl => two(maker, alloc, stores, Head::Shl, w, a, b),
         Operator::Shr => two(maker, alloc, stores, Head::Shr, w, a, b),
         Operator::Sar => two(maker, alloc, stores, Head::Sar, w, a, b),
-        Operator::Test(relation) => related(maker, alloc, stores, relation, w, w, a, b),
+        Operator::Test(relation) => {
+            let comparison = Comparison {
+                relation,
+                operand: w,
+                width: w,
+            };
+            related(maker, alloc, stores, comparison, a, b)
+        }
         Operator::Opaque(operator) => opaque_term(maker, alloc, stores, operator, w, a, b),
     }
 }

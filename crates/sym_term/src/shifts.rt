@@ -1,5 +1,5 @@
 //! Shifts.
-ghost use Rattle.std.specs.Prelude.{◌≡◌, ◌%◌, ◌^◌, ◌<◌, map, IfOk};
+ghost use Rattle.std.specs.Prelude.{◌≡◌, ◌%◌, ◌^◌, ◌<◌, map, IfOk, Some};
 ghost use Rattle.bits64.specs.Words.{bits_of};
 ghost use Rattle.term_tree.specs.Tree.{atoms_of};
 ghost use Rattle.term_tree.specs.View.{tree_of, atom_of};
@@ -108,22 +108,28 @@ fn power(k: u64) -> u64
     1 << k
 }
 
-/// A right shift by `k`, where `m` bits are left: of a sum of multiples it is exact.
-fn right_to(
-    alloc: Global,
-    m: Width,
+/// A right shift: its operator, how what is left of its operand is extended, its width, and the
+/// constant by which it goes.
+struct RightShift {
     head: Head,
-    e: Extension,
-    w: Width,
-    k: u64,
-    a: Term,
-    b: Term,
-) -> Result<Term, Memory>
-    requires { k < 64 }
-    ensures { IfOk result (λ r. tree_of r ≡ spec.right_exact (Some m) head e w k (tree_of a)
-        (tree_of b)) }
+    extension: Extension,
+    width: Width,
+    by: u64,
+}
+
+/// A right shift where `m` bits are left: of a sum of multiples it is exact.
+fn right_to(alloc: Global, m: Width, shift: RightShift, a: Term, b: Term) -> Result<Term, Memory>
+    requires { shift.by < 64 }
+    ensures { IfOk result (λ r. tree_of r ≡ spec.right_exact (Some m) shift.head shift.extension
+        shift.width shift.by (tree_of a) (tree_of b)) }
 {
-    let d = power(k);
+    let RightShift {
+        head,
+        extension,
+        width: w,
+        by,
+    } = shift;
+    let d = power(by);
     match a {
         Term::Sum {
             width,
@@ -133,7 +139,7 @@ fn right_to(
             if is_same_width(width, w)
                 && (does_divide(d, constant) && does_divide_all(d, atoms.as_slice()))
             {
-                return exact(alloc, e, w, m, d, constant, atoms.as_slice());
+                return exact(alloc, extension, w, m, d, constant, atoms.as_slice());
             }
             let sum = Term::Sum {
                 width,
@@ -146,24 +152,21 @@ fn right_to(
     }
 }
 
-/// A right shift by a constant that leaves `left` bits, where that is a width.
+/// A right shift that leaves `left` bits, where that is a width.
 fn right_exact(
     alloc: Global,
     left: Option<Width>,
-    head: Head,
-    e: Extension,
-    w: Width,
-    k: u64,
+    shift: RightShift,
     a: Term,
     b: Term,
 ) -> Result<Term, Memory>
-    requires { k < 64 }
-    ensures { IfOk result (λ r. tree_of r ≡ spec.right_exact left head e w k (tree_of a)
-        (tree_of b)) }
+    requires { shift.by < 64 }
+    ensures { IfOk result (λ r. tree_of r ≡ spec.right_exact left shift.head shift.extension
+        shift.width shift.by (tree_of a) (tree_of b)) }
 {
     match left {
-        None => two_parts(alloc, head, w, a, b),
-        Some(m) => right_to(alloc, m, head, e, w, k, a, b),
+        None => two_parts(alloc, shift.head, shift.width, a, b),
+        Some(m) => right_to(alloc, m, shift, a, b),
     }
 }
 
@@ -176,28 +179,22 @@ fn by_nonzero(alloc: Global, head: Head, w: Width, a: Term, k: u64) -> Result<Te
     match head {
         Head::Shl => times(alloc, w, power(k), &a),
         Head::Shr => {
-            right_exact(
-                alloc,
-                left_of(w, k),
-                Head::Shr,
-                Extension::Zero,
-                w,
-                k,
-                a,
-                count,
-            )
+            let shift = RightShift {
+                head: Head::Shr,
+                extension: Extension::Zero,
+                width: w,
+                by: k,
+            };
+            right_exact(alloc, left_of(w, k), shift, a, count)
         }
         Head::Sar => {
-            right_exact(
-                alloc,
-                left_of(w, k),
-                Head::Sar,
-                Extension::Sign,
-                w,
-                k,
-                a,
-                count,
-            )
+            let shift = RightShift {
+                head: Head::Sar,
+                extension: Extension::Sign,
+                width: w,
+                by: k,
+            };
+            right_exact(alloc, left_of(w, k), shift, a, count)
         }
         _ => two_parts(alloc, head, w, a, count),
     }

@@ -146,7 +146,12 @@ pub fn extended<M: Makes>(
             Some(joint) => {
                 let parts = parts.as_slice();
                 let extensions = extended_all(alloc, makes, e, m, parts)?;
-                extended_joint(alloc, makes, e, m, joint, *width, t, parts, extensions)
+                let over = JointOver {
+                    joint,
+                    width: *width,
+                    parts,
+                };
+                extended_joint(alloc, makes, e, m, t, over, extensions)
             }
             None => match parts.as_slice() {
                 [p] => extended_part(alloc, e, *head, m, *width, t, p),
@@ -157,23 +162,29 @@ pub fn extended<M: Makes>(
     }
 }
 
+/// An operator on bits, of a width, over parts.
+struct JointOver<'a> {
+    joint: Joint,
+    width: Width,
+    parts: &'a [Term],
+}
+
 /// An operator on bits over parts, extended: from the extensions of the parts.
 fn extended_joint<M: Makes>(
     alloc: Global,
     makes: &M,
     e: Extension,
     m: Width,
-    o: Joint,
-    v: Width,
     t: &Term,
-    parts: &[Term],
+    over: JointOver<'_>,
     extensions: Vec<Term>,
 ) -> Result<Term, Memory>
-    ensures { IfOk result (λ r. tree_of r ≡ spec.extended_joint (M.made makes.now) e m o v
-        (tree_of t.now) (trees_of (map tree_of parts.now)) (map tree_of extensions.items)) }
+    ensures { IfOk result (λ r. tree_of r ≡ spec.extended_joint (M.made makes.now) e m over.joint
+        over.width (tree_of t.now) (trees_of (map tree_of over.parts.now)) (map tree_of
+        extensions.items)) }
 {
-    if !extensions.is_empty() && are_of_width(v, parts) {
-        makes.make(alloc, o, extensions)
+    if !extensions.is_empty() && are_of_width(over.width, over.parts) {
+        makes.make(alloc, over.joint, extensions)
     } else {
         extension(alloc, e, m, t)
     }

@@ -21,8 +21,8 @@ mark-requires-clause-room c =
 
 pub returns-clause-each : goal.returns-clause-each
 returns-clause-each c x y =
-    let f = c.args.f.now in
-    let live = c.args.live.now in
+    let f = c.args.flow.now.function.now in
+    let live = c.args.flow.now.live.now in
     let set = c.collect.new.set in
     let after : (reg : ℕ) → has set reg ≡ after_has f live c.args.at reg = λ reg.
     c.collect.ensures.each reg ∙ (two_places live reg c.successors_by.result.first c.successors_by.result.second ∙ ap (list_any (λ q. has_at live q reg)) (c.successors_by.ensures.places ∙ ap (λ (insns : List Insn). successors_of insns c.args.at) c.as_slice.ensures.value)) in

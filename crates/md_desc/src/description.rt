@@ -22,7 +22,7 @@ use md_constr::{Constraints, fits, operand_admits, operand_fits};
 use md_dfa::{Pipeline, pipeline_in};
 use md_forms::Forms;
 use md_pred::PredTable;
-use md_recog::{FormMatch, Half, Steps};
+use md_recog::{FormMatch, Half, Matching, Steps};
 use plain_data::Memory;
 use recog_tree::{Tables, recog};
 use rtx_tree::{Operands, Rtx};
@@ -274,17 +274,12 @@ impl Description {
     {
         let mut steps = Steps::<L>::new(blank);
         let forms = self.forms.as_slice();
-        recog(
-            alloc,
-            Half::Insn,
-            &self.insns,
-            forms,
-            &self.preds,
-            insn,
+        let matching = Matching {
+            half: Half::Insn,
             facts,
-            from,
-            &mut steps,
-        )
+            preds: &self.preds,
+        };
+        recog(alloc, &self.insns, forms, &matching, insn, from, &mut steps)
     }
 
     /// The first form from an index on that matches an instruction.

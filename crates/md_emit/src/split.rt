@@ -7,7 +7,7 @@ ghost use Rattle.md_recog.specs.declared.half.Half.TheVariants as half;
 
 use c_eval::Facts;
 use md_desc::Description;
-use md_recog::{FormMatch, Half, Steps};
+use md_recog::{FormMatch, Half, Matching, Steps};
 use plain_data::Memory;
 use recog_tree::recog;
 use rtx_tree::Rtx;
@@ -36,14 +36,17 @@ fn split_counted<L: Ledger>(
         (length desc.now)) }
 {
     let mut steps = Steps::<L>::new(blank);
+    let matching = Matching {
+        half: Half::Split,
+        facts,
+        preds: desc.preds(),
+    };
     recog(
         alloc,
-        Half::Split,
         desc.splits(),
         desc.forms().as_slice(),
-        desc.preds(),
+        &matching,
         insn,
-        facts,
         from,
         &mut steps,
     )

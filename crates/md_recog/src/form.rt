@@ -13,64 +13,68 @@ use rtx_tree::{Operands, Rtx};
 use std::alloc::Global;
 use std::sync::ledger::Ledger;
 
+/// How forms are matched with instructions: by which of their halves, and with which facts and
+/// predicates.
+pub struct Matching<'a, P> {
+    /// The half.
+    pub half: Half,
+    /// What holds where the instructions stand.
+    pub facts: &'a Facts,
+    /// The predicates.
+    pub preds: &'a P,
+}
+
 /// The operands with which a half of a form that has it matches instructions, by the half's
 /// patterns.
 fn match_patterns<P: Preds, L: Ledger>(
     alloc: Global,
     form: &Form,
-    half: Half,
+    matching: &Matching<'_, P>,
     patterns: &[Rtx],
     insns: &[&Rtx],
-    facts: &Facts,
-    preds: &P,
     steps: &mut Steps<L>,
 ) -> Result<Option<Operands>, Memory>
-    requires has { has_half half form.now.head ≡ true }
-    requires patterns { patterns.now ≡ patterns_of half form.now }
+    requires has { has_half matching.now.half form.now.head ≡ true }
+    requires patterns { patterns.now ≡ patterns_of matching.now.half form.now }
     ensures operands { IfOk result (λ r. (operands : Ops) →
-        (r ≡ Some operands) ↔ FormMatches (P.accepts preds.now) facts.now half (map (λ insn.
-        insn.now) insns.now) form.now operands) }
+        (r ≡ Some operands) ↔ FormMatches (P.accepts matching.now.preds.now) matching.now.facts.now
+        matching.now.half (map (λ insn. insn.now) insns.now) form.now operands) }
     ensures step { steps.new ≤ steps.old + 1 }
 {
-    let condition = half.condition_of(form);
-    match_insns(alloc, patterns, condition, insns, facts, preds, steps)
+    let condition = matching.half.condition_of(form);
+    match_insns(
+        alloc,
+        patterns,
+        condition,
+        insns,
+        matching.facts,
+        matching.preds,
+        steps,
+    )
 }
 
 /// The operands with which a half of a form matches instructions.
 fn match_form<P: Preds, L: Ledger>(
     alloc: Global,
     form: &Form,
-    half: Half,
+    matching: &Matching<'_, P>,
     insns: &[&Rtx],
-    facts: &Facts,
-    preds: &P,
     steps: &mut Steps<L>,
 ) -> Result<Option<Operands>, Memory>
     ensures operands { IfOk result (λ r. (operands : Ops) →
-        (r ≡ Some operands) ↔ FormMatches (P.accepts preds.now) facts.now half (map (λ insn.
-        insn.now) insns.now) form.now operands) }
+        (r ≡ Some operands) ↔ FormMatches (P.accepts matching.now.preds.now) matching.now.facts.now
+        matching.now.half (map (λ insn. insn.now) insns.now) form.now operands) }
     ensures step { steps.new ≤ steps.old + 1 }
 {
-    if !half.is_of(form.head) {
+    if !matching.half.is_of(form.head) {
         return Ok(None);
     }
     let patterns = form.patterns.as_slice();
-    match half {
-        Half::Insn | Half::Split => {
-            match_patterns(alloc, form, half, patterns, insns, facts, preds, steps)
-        }
+    match matching.half {
+        Half::Insn | Half::Split => match_patterns(alloc, form, matching, patterns, insns, steps),
         Half::Window => {
             let window = window_of(alloc, patterns)?;
-            match_patterns(
-                alloc,
-                form,
-                half,
-                window.as_slice(),
-                insns,
-                facts,
-                preds,
-                steps,
-            )
+            match_patterns(alloc, form, matching, window.as_slice(), insns, steps)
         }
     }
 }
@@ -80,19 +84,17 @@ fn match_form<P: Preds, L: Ledger>(
 pub fn match_entry<P: Preds, L: Ledger>(
     alloc: Global,
     entry: &Entry,
-    half: Half,
+    matching: &Matching<'_, P>,
     insns: &[&Rtx],
-    facts: &Facts,
-    preds: &P,
     steps: &mut Steps<L>,
 ) -> Result<Option<Operands>, Memory>
     ensures operands { IfOk result (λ r. (operands : Ops) →
-        (r ≡ Some operands) ↔ EntryMatches (P.accepts preds.now) facts.now half (map (λ insn.
-        insn.now) insns.now) entry.now operands) }
+        (r ≡ Some operands) ↔ EntryMatches (P.accepts matching.now.preds.now) matching.now.facts.now
+        matching.now.half (map (λ insn. insn.now) insns.now) entry.now operands) }
     ensures step { steps.new ≤ steps.old + 1 }
 {
     match &entry.form {
-        Ok(form) => match_form(alloc, form, half, insns, facts, preds, steps),
+        Ok(form) => match_form(alloc, form, matching, insns, steps),
         Err(_) => Ok(None),
     }
 }

@@ -16,6 +16,7 @@ mod matching;
 mod recog;
 
 pub use accepted::names_predicate;
+pub use form::Matching;
 pub use half::{Half, is_scratch};
 pub use matching::{is_met, match_insns};
 pub use md_match::Steps;

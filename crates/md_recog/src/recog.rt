@@ -3,9 +3,8 @@ ghost use Rattle.std.specs.Prelude.{◌≡◌, ◌↔◌, ◌+◌, ◌≤◌, �
 ghost use Rattle.md_recog.specs.Recog.{MatchesHere};
 ghost use Rattle.md_recog.specs.declared.recog.FormMatch.{FormMatch};
 
-use crate::form::match_entry;
-use crate::half::Half;
-use c_eval::{Facts, Preds};
+use crate::form::{Matching, match_entry};
+use c_eval::Preds;
 use md_forms::Entry;
 use md_match::Steps;
 use plain_data::Memory;
@@ -27,28 +26,18 @@ pub struct FormMatch {
 pub fn match_at<P: Preds, L: Ledger>(
     alloc: Global,
     forms: &[Entry],
-    half: Half,
+    matching: &Matching<'_, P>,
     insns: &[&Rtx],
-    facts: &Facts,
-    preds: &P,
     form: u32,
     steps: &mut Steps<L>,
 ) -> Result<Option<FormMatch>, Memory>
     requires { form < length forms.now }
     ensures here { IfOk result (λ r. (m : FormMatch) →
-        (r ≡ Some m) ↔ MatchesHere (P.accepts preds.now) facts.now half (map (λ insn.
-        insn.now) insns.now) forms.now form m) }
+        (r ≡ Some m) ↔ MatchesHere (P.accepts matching.now.preds.now) matching.now.facts.now
+        matching.now.half (map (λ insn. insn.now) insns.now) forms.now form m) }
     ensures step { steps.new ≤ steps.old + 1 }
 {
-    match match_entry(
-        alloc,
-        &forms[form as usize],
-        half,
-        insns,
-        facts,
-        preds,
-        steps,
-    )? {
+    match match_entry(alloc, &forms[form as usize], matching, insns, steps)? {
         Some(operands) => Ok(Some(FormMatch { form, operands })),
         None => Ok(None),
     }

@@ -14,7 +14,7 @@ use c_eval::Facts;
 use md_desc::Description;
 use md_forms::Entry;
 use md_match::match_shapes;
-use md_recog::{FormMatch, Half, Steps, is_scratch, match_at};
+use md_recog::{FormMatch, Half, Matching, Steps, is_scratch, match_at};
 use plain_data::{Items, Memory};
 use rtx_tree::{Insn, Kids, Rtx};
 use std::alloc::Global;
@@ -165,13 +165,16 @@ fn window_counted<L: Ledger>(
 {
     let mut steps = Steps::<L>::new(blank);
     let patterns = patterns_of(alloc, insns)?;
+    let matching = Matching {
+        half: Half::Window,
+        facts,
+        preds: desc.preds(),
+    };
     match_at(
         alloc,
         desc.forms().as_slice(),
-        Half::Window,
+        &matching,
         patterns.as_slice(),
-        facts,
-        desc.preds(),
         form,
         &mut steps,
     )

@@ -12,9 +12,9 @@ ghost use Rattle.md_recog.specs.declared.half.Half.TheVariants as half;
 
 use crate::key::key_of;
 use crate::tables::{Tables, next_tried};
-use c_eval::{Facts, Preds};
+use c_eval::Preds;
 use md_forms::Entry;
-use md_recog::{FormMatch, Half, Steps, match_at};
+use md_recog::{FormMatch, Matching, Steps, match_at};
 use plain_data::Memory;
 use rtx_tree::Rtx;
 use std::alloc::Global;
@@ -25,32 +25,31 @@ use std::sync::ledger::Ledger;
 /// half, and what matches has it.
 pub fn recog<P: Preds, L: Ledger>(
     alloc: Global,
-    half: Half,
     tables: &Tables,
     forms: &[Entry],
-    preds: &P,
+    matching: &Matching<'_, P>,
     insn: &Rtx,
-    facts: &Facts,
     from: u32,
     steps: &mut Steps<L>,
 ) -> Result<Option<FormMatch>, Memory>
-    requires tables { AreTablesOf half tables.now forms.now }
+    requires tables { AreTablesOf matching.now.half tables.now forms.now }
     requires short { length forms.now < 2 ^ 32 }
     ensures first { IfOk result (λ r. (m : FormMatch) →
-        (r ≡ Some m) ↔ IsFirst (P.accepts preds.now) facts.now half
-        (insn.now ∷ []) forms.now from m) }
+        (r ≡ Some m) ↔ IsFirst (P.accepts matching.now.preds.now) matching.now.facts.now
+        matching.now.half (insn.now ∷ []) forms.now from m) }
     ensures none { IfOk result (λ r. r ≡ None →
-        NoneBetween (P.accepts preds.now) facts.now half (insn.now ∷ []) forms.now from
-        (length forms.now)) }
-    ensures tries { steps.new ≤ steps.old + count_by (is_tried half insn.now) forms.now }
+        NoneBetween (P.accepts matching.now.preds.now) matching.now.facts.now matching.now.half
+        (insn.now ∷ []) forms.now from (length forms.now)) }
+    ensures tries { steps.new ≤ steps.old + count_by (is_tried matching.now.half insn.now)
+        forms.now }
     ensures keyed { (entry : Entry) (operands : Ops) →
-        EntryMatches (P.accepts preds.now) facts.now half (insn.now ∷ []) entry operands →
-        is_tried half insn.now entry ≡ true }
+        EntryMatches (P.accepts matching.now.preds.now) matching.now.facts.now matching.now.half
+        (insn.now ∷ []) entry operands → is_tried matching.now.half insn.now entry ≡ true }
 {
     let key = key_of(insn);
     let mut place = from;
     while let Some(form) = next_tried(tables, key, place) {
-        if let Some(found) = match_at(alloc, forms, half, &[insn], facts, preds, form, steps)? {
+        if let Some(found) = match_at(alloc, forms, matching, &[insn], form, steps)? {
             return Ok(Some(found));
         }
         place = form + 1;

@@ -4,5 +4,5 @@ use Rattle.md_recog.proofs.form.match_patterns.Goals as goal
 
 pub returns-clause-operands : goal.returns-clause-operands
 returns-clause-operands g c =
-    form_found (g.P.Preds.accepts c.args.preds.now) c.args.facts.now c.args.half (seen c.args.insns.now) c.args.form.now c.args.patterns.now c.condition_of-condition.result.now c.match_insns.result c.requires.has
+    form_found (g.P.Preds.accepts c.args.matching.now.preds.now) c.args.matching.now.facts.now c.args.matching.now.half (seen c.args.insns.now) c.args.form.now c.args.patterns.now c.condition_of-condition.result.now c.match_insns.result c.requires.has
     c.requires.patterns c.condition_of-condition.ensures c.match_insns.ensures.operands

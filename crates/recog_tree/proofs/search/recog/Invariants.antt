@@ -5,9 +5,9 @@ use Rattle.recog_tree.proofs.search.recog.Given as goal
 
 abbrev pub invariant-loop-form : goal.invariant-loop-form
 invariant-loop-form g l = record {
-  none : NoneBetween (g.P.Preds.accepts l.preds) l.facts l.half (l.insn ∷ []) l.forms l.from l.place;
+  none : NoneBetween (g.P.Preds.accepts l.matching.preds.now) l.matching.facts.now l.matching.half (l.insn ∷ []) l.forms l.from l.place;
   behind : l.from ≤ l.place;
-  tries : l.steps ≤ l.fn.steps + count l.half l.insn (take l.place l.forms);
+  tries : l.steps ≤ l.fn.steps + count l.matching.half l.insn (take l.place l.forms);
 }
 
 abbrev pub decreases-loop-form : goal.decreases-loop-form

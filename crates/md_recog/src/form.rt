@@ -15,6 +15,7 @@ use std::sync::ledger::Ledger;
 
 /// How forms are matched with instructions: by which of their halves, and with which facts and
 /// predicates.
+#[derive(Drop)]
 pub struct Matching<'a, P> {
     /// The half.
     pub half: Half,

@@ -22,6 +22,7 @@ use std::alloc::Global;
 const WORD: usize = u64::BITS as usize;
 
 /// A function with the places of its labels and what is live before each of its instructions.
+#[derive(Clone, Copy)]
 struct Flow<'a> {
     function: &'a Function,
     labels: &'a Labels,

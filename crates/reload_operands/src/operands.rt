@@ -43,6 +43,7 @@ fn is_address(placeholder: &Rtx) -> bool
 
 /// An instruction whose operands are looked at: the pattern that matched it, the instruction with
 /// its references to the frame put in, and with its homes.
+#[derive(Clone, Copy)]
 struct Homed<'a> {
     pattern: &'a Rtx,
     placed: &'a Rtx,

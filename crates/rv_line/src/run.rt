@@ -31,6 +31,7 @@ pub struct CodeState<'a> {
 
 /// What a run goes through: the code, the memory that the caller sees, and the memory that the
 /// functions it calls see.
+#[derive(Clone, Copy)]
 struct Setting<'s, 'a> {
     code: &'s LabelledItems<'a>,
     ranges: &'s Ranges,

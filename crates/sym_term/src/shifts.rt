@@ -110,6 +110,7 @@ fn power(k: u64) -> u64
 
 /// A right shift: its operator, how what is left of its operand is extended, its width, and the
 /// constant by which it goes.
+#[derive(Clone, Copy)]
 struct RightShift {
     head: Head,
     extension: Extension,

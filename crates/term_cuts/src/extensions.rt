@@ -151,7 +151,7 @@ pub fn extended<M: Makes>(
                     width: *width,
                     parts,
                 };
-                extended_joint(alloc, makes, e, m, t, over, extensions)
+                extended_joint(alloc, makes, e, m, t, &over, extensions)
             }
             None => match parts.as_slice() {
                 [p] => extended_part(alloc, e, *head, m, *width, t, p),
@@ -163,6 +163,7 @@ pub fn extended<M: Makes>(
 }
 
 /// An operator on bits, of a width, over parts.
+#[derive(Clone, Copy)]
 struct JointOver<'a> {
     joint: Joint,
     width: Width,
@@ -176,12 +177,12 @@ fn extended_joint<M: Makes>(
     e: Extension,
     m: Width,
     t: &Term,
-    over: JointOver<'_>,
+    over: &JointOver<'_>,
     extensions: Vec<Term>,
 ) -> Result<Term, Memory>
-    ensures { IfOk result (λ r. tree_of r ≡ spec.extended_joint (M.made makes.now) e m over.joint
-        over.width (tree_of t.now) (trees_of (map tree_of over.parts.now)) (map tree_of
-        extensions.items)) }
+    ensures { IfOk result (λ r. tree_of r ≡ spec.extended_joint (M.made makes.now) e m
+        over.now.joint over.now.width (tree_of t.now) (trees_of (map tree_of over.now.parts.now))
+        (map tree_of extensions.items)) }
 {
     if !extensions.is_empty() && are_of_width(over.width, over.parts) {
         makes.make(alloc, over.joint, extensions)

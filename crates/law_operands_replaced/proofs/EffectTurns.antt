@@ -1,4 +1,4 @@
--- Uses, clobbers and effects that are hidden, with new trees put in; and all effects of an instruction.
+-- Uses and clobbers with new trees put in.
 use Rattle.std.proofs.Common.{◌≡◌, ◌≢◌, ◌⊎◌, inl, inr, ℕ, Bool, true, false, List, [], ◌∷◌, length, Option, Some, None, refl, sym, ap, subst, ◌∙◌}
 use Rattle.std.specs.List.{list_all}
 use Rattle.std.specs.Prelude.{ℤ, unwrap_or, option_and_then}

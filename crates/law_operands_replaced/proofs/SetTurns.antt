@@ -1,4 +1,4 @@
--- A set, a use and a clobber in which new trees stand have the effect that they had, where what they change stays.
+-- A set in which new trees stand has the effect that it had, where what it changes stays.
 use Rattle.std.proofs.Common.{◌≡◌, ◌≢◌, ℕ, ◌&&◌, ◌||◌, not, Bool, true, false, List, [], ◌∷◌, Option, Some, None, refl, sym, ap, subst, ◌∙◌}
 use Rattle.std.specs.List.{list_all, list_any}
 use Rattle.std.proofs.lemmas.Bool.{and_parts}

@@ -53,8 +53,8 @@ fn add_insn(
         || is_beside flow.now.function.now flow.now.live.now at insn.now y x))) }
 {
     let defines = insn_defines(alloc, insn)?;
-    let insns = flow.function.insns.as_slice();
-    collect(flow.live, successors_by(flow.labels, insns, at), set);
+    let successors = successors_by(flow.labels, flow.function.insns.as_slice(), at);
+    collect(flow.live, successors, set);
     mark(alloc, rows, defines.as_slice(), set)?;
     Ok(())
 }

@@ -25,7 +25,7 @@ returns-clause-each c x y =
     let live = c.args.flow.now.live.now in
     let set = c.collect.new.set in
     let after : (reg : ℕ) → has set reg ≡ after_has f live c.args.at reg = λ reg.
-    c.collect.ensures.each reg ∙ (two_places live reg c.successors_by.result.first c.successors_by.result.second ∙ ap (list_any (λ q. has_at live q reg)) (c.successors_by.ensures.places ∙ ap (λ (insns : List Insn). successors_of insns c.args.at) c.as_slice.ensures.value)) in
+    c.collect.ensures.each reg ∙ (two_places live reg c.successors_by-successors.result.first c.successors_by-successors.result.second ∙ ap (list_any (λ q. has_at live q reg)) (c.successors_by-successors.ensures.places ∙ ap (λ (insns : List Insn). successors_of insns c.args.at) c.as_slice.ensures.value)) in
     let defines : (reg : ℕ) → has_reg c.as_slice-2.result.now reg ≡ insn_defines c.args.insn.now reg = λ reg.
     ap (λ (regs : List ℕ). has_reg regs reg) c.as_slice-2.ensures.value ∙ c.in_ok-defines.ensures reg in
     let beside : (a b : ℕ) → (has set b && has_reg c.as_slice-2.result.now a) ≡ is_beside f live c.args.at c.args.insn.now a b = λ a b.

@@ -30,7 +30,7 @@ abbrev pub draft_with : FormHead → Test → Draft
 draft_with h x = record {
   head = h;
   matched = record { patterns = no_patterns; condition = always };
-  made = record { split_condition = always; sequence = no_patterns; statements = nothing };
+  replacement = record { split_condition = always; sequence = no_patterns; statements = nothing };
   printed = record { output = output.Template (template.One []); attributes = [] };
   defined = record { test = Some x; class = None; values = []; default = [] };
 }

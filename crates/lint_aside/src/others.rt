@@ -173,7 +173,12 @@ fn unknown_constraint(
     if matched.is_some() {
         return Ok(matched);
     }
-    odd_among(alloc, tables, form, draft.replacement.sequence.texts.as_slice())
+    odd_among(
+        alloc,
+        tables,
+        form,
+        draft.replacement.sequence.texts.as_slice(),
+    )
 }
 
 // ---- an attribute

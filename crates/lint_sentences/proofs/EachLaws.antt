@@ -1,7 +1,7 @@
 -- Texts of numbers, one after the other.
 use Rattle.std.proofs.Common.{◌≡◌, ◌<◌, ◌≤◌, ◌+◌, ◌-◌, ℕ, suc, List, ◌++◌, sym, ap, ◌∙◌, append_assoc, arith}
 use Rattle.std.proofs.lemmas.List.{append-nil}
-use Rattle.lint_sentences.specs.machine.Each.{each_from}
+use Rattle.lint_sentences.specs.Each.{each_from}
 
 -- one more was made
 pub each_next : (text : ℕ → List ℕ) (out more whole : List ℕ) (k last : ℕ) → k < last → more ≡ out ++ text k →

@@ -10,7 +10,7 @@ use Rattle.rtx_tree.specs.declared.tree.Rtx.{Rtx}
 use Rattle.rtx_tree.specs.Tree.{head_of}
 use Rattle.rtx_tree.specs.Operands.{operand_at}
 use Rattle.rtl_print.specs.Print.{printed}
-use Rattle.lint_sentences.specs.machine.Each.{each_from}
+use Rattle.lint_sentences.specs.Each.{each_from}
 
 -- operands are told whose number is below this
 abbrev pub most_operands : ℕ

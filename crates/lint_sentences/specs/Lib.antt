@@ -5,4 +5,4 @@ pub mod Instance
 pub mod Fault
 pub mod Unreached
 pub mod Summary
-pub mod machine
+pub mod Each

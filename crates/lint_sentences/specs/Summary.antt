@@ -6,7 +6,7 @@ use Rattle.std.specs.Fmt.{decimal}
 use Rattle.lint_sentences.specs.declared.kind.Kind.{Kind}
 use Rattle.lint_sentences.specs.declared.kind.Kind.TheVariants as kind
 use Rattle.lint_sentences.specs.Kind.{is_kind}
-use Rattle.lint_sentences.specs.machine.Each.{each_from}
+use Rattle.lint_sentences.specs.Each.{each_from}
 
 abbrev pub counted : List ℕ → ℕ → List ℕ
 counted words count = words ++ decimal count

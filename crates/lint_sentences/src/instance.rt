@@ -3,7 +3,7 @@ ghost use Rattle.std.specs.Prelude.{◌≡◌, ◌++◌, OnOk, Option, flat_map}
 ghost use Rattle.std.specs.Option.{option_copied};
 ghost use Rattle.rtl_print.specs.Print.{printed};
 ghost use Rattle.lint_sentences.specs.Instance as spec;
-ghost use Rattle.lint_sentences.specs.machine.Each.{each_from};
+ghost use Rattle.lint_sentences.specs.Each.{each_from};
 
 use plain_data::Memory;
 use rtl_print::print_rtx;

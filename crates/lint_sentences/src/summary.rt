@@ -3,7 +3,7 @@ ghost use Rattle.std.specs.Prelude.{◌≡◌, ◌≤◌, ◌++◌, ◌==◌, On
 ghost use Rattle.std.specs.List.{count_by};
 ghost use Rattle.lint_sentences.specs.Kind.{is_kind};
 ghost use Rattle.lint_sentences.specs.Summary as spec;
-ghost use Rattle.lint_sentences.specs.machine.Each.{each_from};
+ghost use Rattle.lint_sentences.specs.Each.{each_from};
 
 use crate::kind::Kind;
 use plain_data::Memory;

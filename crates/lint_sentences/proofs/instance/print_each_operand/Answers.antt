@@ -1,6 +1,6 @@
 use Rattle.std.proofs.Common.{◌<◌, ◌≤◌, ◌++◌, arith}
 use Rattle.lint_sentences.specs.Instance as spec
-use Rattle.lint_sentences.specs.machine.Each.{each_from}
+use Rattle.lint_sentences.specs.Each.{each_from}
 use Rattle.lint_sentences.proofs.EachLaws.{each_next, each_ends}
 use Rattle.lint_sentences.proofs.instance.print_each_operand.Goals as goal
 

@@ -1,6 +1,6 @@
 use Rattle.std.proofs.Common.{◌≡◌, ◌++◌, ◌-◌}
 use Rattle.lint_sentences.specs.Instance as spec
-use Rattle.lint_sentences.specs.machine.Each.{each_from}
+use Rattle.lint_sentences.specs.Each.{each_from}
 use Rattle.lint_sentences.proofs.instance.print_each_operand.Given as goal
 
 abbrev pub invariant-loop-number : goal.invariant-loop-number

@@ -1,6 +1,6 @@
 use Rattle.std.proofs.Common.{◌≡◌, ◌++◌, ◌-◌}
 use Rattle.lint_sentences.specs.Instance as spec
-use Rattle.lint_sentences.specs.machine.Each.{each_from}
+use Rattle.lint_sentences.specs.Each.{each_from}
 use Rattle.lint_sentences.proofs.instance.print_shared.Given as goal
 
 abbrev pub invariant-loop-second : goal.invariant-loop-second

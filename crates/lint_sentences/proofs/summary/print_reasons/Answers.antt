@@ -1,6 +1,6 @@
 use Rattle.std.proofs.Common.{◌<◌, ◌≤◌, ◌++◌, arith}
 use Rattle.lint_sentences.specs.Summary as spec
-use Rattle.lint_sentences.specs.machine.Each.{each_from}
+use Rattle.lint_sentences.specs.Each.{each_from}
 use Rattle.lint_sentences.proofs.EachLaws.{each_next, each_ends}
 use Rattle.lint_sentences.proofs.summary.print_reasons.Goals as goal
 

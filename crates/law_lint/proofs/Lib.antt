@@ -1,2 +1,3 @@
 pub mod LiveLaws
 pub mod WrongLaws
+pub mod FoundLaws

@@ -1,0 +1,4 @@
+pub mod SourcedLaws
+pub mod StandLaws
+pub mod ArrangedLaws
+pub mod RunLaws

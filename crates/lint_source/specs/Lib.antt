@@ -1,0 +1,4 @@
+pub mod Sourced
+pub mod Stands
+pub mod Runs
+pub mod machine

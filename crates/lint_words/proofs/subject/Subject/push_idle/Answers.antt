@@ -1,4 +1,4 @@
-use Rattle.std.proofs.Common.{◌≡◌, ◌<◌, List, [], ◌∷◌, ◌++◌, length, subst, arith}
+use Rattle.std.proofs.Common.{◌≡◌, ◌<◌, [], ◌∷◌, ◌++◌, length, subst, arith}
 use Rattle.lint_choices.proofs.PushedLaws.{mapped_next}
 use Rattle.lint_words.specs.declared.note.Note.{Note}
 use Rattle.lint_words.specs.Told.{idle_note}

@@ -1,7 +1,6 @@
 -- An input has no more functions than bytes.
-use Rattle.std.proofs.Common.{◌≡◌, ℕ, suc, ◌+◌, ◌≤◌, List, [], ◌∷◌, ◌++◌, length, refl, sym, ap, subst, ◌∙◌, arith}
+use Rattle.std.proofs.Common.{◌≡◌, ℕ, suc, ◌≤◌, List, [], ◌∷◌, ◌++◌, length, refl, sym, ap, subst, ◌∙◌, arith}
 use Rattle.std.proofs.lemmas.List.{length-append}
-use Rattle.rtx_tree.specs.declared.function.Function.{Function}
 use Rattle.rtx_tree.specs.declared.place.Place.{Place}
 use Rattle.lisp_read.specs.declared.tree.Tree.{Tree}
 use Rattle.lisp_read.specs.declared.class.Bracket.TheVariants.{Round, Square}
@@ -11,7 +10,6 @@ use Rattle.lisp_read.specs.Text.{IsAtom, Spells}
 use Rattle.lisp_read.specs.Parsed.{Parsed, stands, construct, parsed_then, parsed_map, each_parsed}
 use Rattle.lisp_read.proofs.PartLemmas.{parts_of-Atom, parts_of-Str, parts_of-Block, parts_of-List, parts_of-Vector}
 use Rattle.lisp_read.proofs.TreeInduction.{Steps, induction}
-use Rattle.func_input.specs.Input.{IsRead}
 use Rattle.law_few_functions.specs.Few.{FewFunctions}
 
 -- ---- each tree has a part
